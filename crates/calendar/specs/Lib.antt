@@ -1,0 +1,10 @@
+pub mod Easter
+pub mod Examples
+pub mod Lawful
+pub mod Listed
+pub mod Meaning
+pub mod Rule
+pub mod Search
+pub mod Steps
+pub mod Text
+pub mod Trading

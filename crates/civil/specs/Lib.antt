@@ -1,0 +1,4 @@
+pub mod Dates
+pub mod Text
+pub mod Weekdays
+pub mod Years
