@@ -1,0 +1,5 @@
+mod Fronts
+mod Remainders
+mod Texts
+mod Weights
+mod Words
