@@ -1,0 +1,12 @@
+pub mod Totals
+pub mod Members
+pub mod Rises
+pub mod Cuts
+pub mod Ends
+pub mod Holes
+pub mod Fronts
+pub mod Found
+pub mod Left
+pub mod Lawful
+pub mod Lexical
+pub mod Orders

@@ -1,0 +1,9 @@
+pub mod Order
+pub mod Lists
+pub mod Places
+pub mod Fields
+pub mod Keys
+pub mod Kept
+pub mod Answers
+pub mod Calls
+pub mod Laws
