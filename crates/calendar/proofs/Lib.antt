@@ -1,3 +1,4 @@
 pub mod Dated
 pub mod Gauss
+pub mod Nearest
 pub mod Rising

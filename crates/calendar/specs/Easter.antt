@@ -1,8 +1,11 @@
 -- Easter Sunday by Gauss's rule.
+use mathlib.Core.Path.{_≡_}
 use mathlib.Core.Bool.{Bool, true, false, cond, _&&_}
-use Prim.Native.Nat.{ℕ, _+_, _*_, _%_}
+use Prim.Native.Nat.{ℕ, _+_, _*_, _%_, _≤_}
 use lib.Dec.{eqb, ltb}
 use Rattle.civil.specs.Dates.{day-number}
+use Rattle.civil.specs.Weekdays.{weekday-of}
+use Rattle.civil.specs.declared.weekday.Weekday.the-variants.{Sunday}
 use Rattle.civil.specs.declared.month.Month.the-variants.{March, April}
 
 -- the year's place in the cycle of nineteen years after which the moon's phases fall on the same dates
@@ -27,7 +30,13 @@ easter-sunday y =
     (cond (eqb (reckoned y) (day-number y April 25) && (eqb (to-full-moon y) 28 && ltb 10 (in-moon-cycle y))) (day-number y April 18)
     (reckoned y))
 
--- the same, as days after 22 March
+-- what is known of every Easter: a Sunday from 22 March to 25 April
+pub record ASunday (y easter : ℕ) : Type 0 where
+  pub sunday : weekday-of easter ≡ Sunday
+  pub from : day-number y March 22 ≤ easter
+  pub until : easter ≤ day-number y April 25
+
+-- Easter Sunday as days after 22 March
 abbrev pub after-22-march : ℕ → ℕ
 after-22-march y =
     cond (eqb (to-full-moon y + to-sunday y) 35) 28

@@ -1,7 +1,8 @@
 -- The neighbours and the hours of a trading day.
+use mathlib.Core.Path.{_≡_}
 use mathlib.Core.Bool.{Bool, true, false, cond, _&&_}
 use mathlib.Core.List.{List, [], _∷_}
-use Prim.Native.Nat.{ℕ, zero, suc, _+_, _-_, _*_}
+use Prim.Native.Nat.{ℕ, zero, suc, _+_, _-_, _*_, _<_, _≤_}
 use Rattle.std.specs.declared.option.Option.{Option}
 use Rattle.std.specs.declared.option.Option.the-variants.{Some, None}
 use Rattle.calendar.specs.declared.day.Kind.{Kind}
@@ -37,6 +38,25 @@ next-trading-day m day = nearest m (days-after 14 day)
 
 abbrev pub previous-trading-day : Meaning → ℕ → Option ℕ
 previous-trading-day m day = nearest m (days-until 14 day)
+
+-- r is the nearest trading day after a day, at most n days away: every day between them is known and closed
+pub record NextWithin (m : Meaning) (n day r : ℕ) : Type 0 where
+  pub after : day < r
+  pub near : r ≤ day + n
+  pub trades : trading m r ≡ true
+  pub between : (d : ℕ) → day < d → d < r → (known m d ≡ true) × (trading m d ≡ false)
+
+-- and before a day
+pub record PreviousWithin (m : Meaning) (n day r : ℕ) : Type 0 where
+  pub before : r < day
+  pub near : day ≤ r + n
+  pub trades : trading m r ≡ true
+  pub between : (d : ℕ) → r < d → d < day → (known m d ≡ true) × (trading m d ≡ false)
+
+-- the answer is a day with the property, or there is none
+abbrev pub Answers : (ℕ → Type 0) → Option ℕ → Type 0
+Answers P None = (d : ℕ) → P d → ⊥
+Answers P (Some r) = P r
 
 -- the moment at which Irish clocks show so many seconds after midnight
 abbrev pub irish : Meaning → ℕ → ℕ → ℕ

@@ -1,7 +1,7 @@
 //! Easter Sunday.
 ghost use mathlib.Core.Path.{_≡_};
 ghost use Prim.Native.Nat.{_+_, _-_, _*_, _≤_};
-ghost use Rattle.calendar.specs.Easter.{easter-sunday, after-22-march};
+ghost use Rattle.calendar.specs.Easter.{easter-sunday, after-22-march, ASunday};
 use civil::date::day_number;
 use civil::month::Month;
 
@@ -28,6 +28,7 @@ fn days_after_22_march(year: u32) -> u32
 pub fn easter_sunday(year: u32) -> u64
     ensures value { λ r. ⌜ r ≡ easter-sunday year ⌝ }
     ensures bound { λ r. ⌜ r ≤ 366 * (year - 1970) + 392 ⌝ }
+    ensures sunday { λ r. ⌜ (2000 ≤ year → year ≤ 2199 → ASunday year r) ⌝ }
 {
     day_number(year, Month::March, 22 + days_after_22_march(year))
 }

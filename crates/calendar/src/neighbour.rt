@@ -2,7 +2,7 @@
 ghost use mathlib.Core.Path.{_≡_};
 ghost use Rattle.calendar.specs.Meaning.{trading};
 ghost use Prim.Native.Nat.{ℕ, suc};
-ghost use Rattle.calendar.specs.Trading.{nearest, days-along, next-trading-day, previous-trading-day};
+ghost use Rattle.calendar.specs.Trading.{nearest, days-along, next-trading-day, previous-trading-day, Answers, NextWithin, PreviousWithin};
 ghost use Rattle.calendar.specs.Steps.{beside, met};
 use super::calendar::Calendar;
 
@@ -78,16 +78,30 @@ fn neighbour<C: Calendar>(calendar: &C, day: u32, way: Way, reach: u32) -> Optio
     None
 }
 
-/// The nearest trading day after `day`, within 14 days and with all days up to it known.
-pub fn next_trading_day<C: Calendar>(calendar: &C, day: u32) -> Option<u32>
+fn trading_day_after<C: Calendar>(calendar: &C, day: u32) -> Option<u32>
     ensures { λ r. ⌜ r ≡ next-trading-day (meaning (now (calendar .entry))) day ⌝ }
 {
     neighbour(calendar, day, Way::Onward, REACH)
 }
 
-/// The nearest trading day before `day`, within 14 days and with all days down to it known.
-pub fn previous_trading_day<C: Calendar>(calendar: &C, day: u32) -> Option<u32>
+fn trading_day_before<C: Calendar>(calendar: &C, day: u32) -> Option<u32>
     ensures { λ r. ⌜ r ≡ previous-trading-day (meaning (now (calendar .entry))) day ⌝ }
 {
     neighbour(calendar, day, Way::Back, REACH)
+}
+
+/// The nearest trading day after `day`, within 14 days and with all days up to it known.
+pub fn next_trading_day<C: Calendar>(calendar: &C, day: u32) -> Option<u32>
+    ensures value { λ r. ⌜ r ≡ next-trading-day (meaning (now (calendar .entry))) day ⌝ }
+    ensures nearest { λ r. ⌜ Answers (NextWithin (meaning (now (calendar .entry))) 14 day) r ⌝ }
+{
+    trading_day_after(calendar, day)
+}
+
+/// The nearest trading day before `day`, within 14 days and with all days down to it known.
+pub fn previous_trading_day<C: Calendar>(calendar: &C, day: u32) -> Option<u32>
+    ensures value { λ r. ⌜ r ≡ previous-trading-day (meaning (now (calendar .entry))) day ⌝ }
+    ensures nearest { λ r. ⌜ Answers (PreviousWithin (meaning (now (calendar .entry))) 14 day) r ⌝ }
+{
+    trading_day_before(calendar, day)
 }

@@ -1,0 +1,4 @@
+pub mod Highest
+pub mod Later
+pub mod Opening
+pub mod Timely

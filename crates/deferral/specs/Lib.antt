@@ -1,0 +1,9 @@
+pub mod Amounts
+pub mod Annex
+pub mod Deadlines
+pub mod Examples
+pub mod Flat
+pub mod Judged
+pub mod Publication
+pub mod Rows
+pub mod Tiers
