@@ -14,7 +14,7 @@ pub fn day_line<C: Calendar>(
     calendar: &C,
     day: u32,
 ) -> Result<Option<String>, AllocError>
-    ensures { IfOk result (λ text. option_map string_bytes text ≡ day_line (meaning calendar.now) day) }
+    ensures { IfOk result (λ text. option_map string_bytes text ≡ day_line (C.meaning calendar.now) day) }
 {
     let Some(known) = calendar.ask(day) else {
         return Ok(None);

@@ -15,7 +15,7 @@ pub struct Tally {
 
 /// What the calendar knows of the day's kind; a day that it does not know counts as closed.
 fn kind_on<C: Calendar>(calendar: &C, first: u32, after: u32) -> Kind
-    ensures { result ≡ (if known (meaning calendar.now) (first + after) then (meaning calendar.now).kind (first + after) else Kind.Closed) }
+    ensures { result ≡ (if known (C.meaning calendar.now) (first + after) then (C.meaning calendar.now).kind (first + after) else Kind.Closed) }
 {
     let Some(day) = first.checked_add(after) else {
         return Kind::Closed;
@@ -47,7 +47,7 @@ fn counted(tally: Tally, kind: Kind) -> Tally
 
 /// The tally of the `days` days from `first` on.
 pub fn tally_of<C: Calendar>(calendar: &C, first: u32, days: u32) -> Tally
-    ensures { result ≡ tallied (meaning calendar.now) first days }
+    ensures { result ≡ tallied (C.meaning calendar.now) first days }
 {
     let mut tally = Tally { full: 0, half: 0 };
     for after in 0..days {

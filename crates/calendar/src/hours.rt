@@ -34,7 +34,7 @@ fn irish_moment(day: u32, time: u32, offset: u32) -> u64
 
 /// The moments of the day; none where it is no known trading day.
 pub fn hours_of<C: Calendar>(calendar: &C, day: u32) -> Option<Hours>
-    ensures { result ≡ hours_of (meaning calendar.now) day }
+    ensures { result ≡ hours_of (C.meaning calendar.now) day }
 {
     let known = calendar.ask(day)?;
     let close = match known.kind {

@@ -38,7 +38,7 @@ impl Way {
 
 /// Is the day a known trading day?
 pub fn is_trading_day<C: Calendar>(calendar: &C, day: u32) -> bool
-    ensures { result ≡ trading (meaning calendar.now) day }
+    ensures { result ≡ trading (C.meaning calendar.now) day }
 {
     match calendar.ask(day) {
         Some(known) => known.kind.trades(),
@@ -48,7 +48,7 @@ pub fn is_trading_day<C: Calendar>(calendar: &C, day: u32) -> bool
 
 /// Goes one day on and asks about it.
 fn look<C: Calendar>(calendar: &C, day: u32, way: Way) -> Step
-    ensures { (n : ℕ) → nearest (meaning calendar.now) (days_along way (suc n) day) ≡ met (meaning calendar.now) way n result }
+    ensures { (n : ℕ) → nearest (C.meaning calendar.now) (days_along way (suc n) day) ≡ met (C.meaning calendar.now) way n result }
 {
     let Some(at) = way.beside(day) else {
         return Step::Unknown;
@@ -65,7 +65,7 @@ fn look<C: Calendar>(calendar: &C, day: u32, way: Way) -> Step
 
 /// The nearest trading day in one way within `reach` days, all days up to it being known.
 fn neighbour<C: Calendar>(calendar: &C, day: u32, way: Way, reach: u32) -> Option<u32>
-    ensures { result ≡ nearest (meaning calendar.now) (days_along way reach day) }
+    ensures { result ≡ nearest (C.meaning calendar.now) (days_along way reach day) }
 {
     let mut at = day;
     for tried in 0..reach {
@@ -79,29 +79,29 @@ fn neighbour<C: Calendar>(calendar: &C, day: u32, way: Way, reach: u32) -> Optio
 }
 
 fn trading_day_after<C: Calendar>(calendar: &C, day: u32) -> Option<u32>
-    ensures { result ≡ next_trading_day (meaning calendar.now) day }
+    ensures { result ≡ next_trading_day (C.meaning calendar.now) day }
 {
     neighbour(calendar, day, Way::Onward, REACH)
 }
 
 fn trading_day_before<C: Calendar>(calendar: &C, day: u32) -> Option<u32>
-    ensures { result ≡ previous_trading_day (meaning calendar.now) day }
+    ensures { result ≡ previous_trading_day (C.meaning calendar.now) day }
 {
     neighbour(calendar, day, Way::Back, REACH)
 }
 
 /// The nearest trading day after `day`, within 14 days and with all days up to it known.
 pub fn next_trading_day<C: Calendar>(calendar: &C, day: u32) -> Option<u32>
-    ensures value { result ≡ next_trading_day (meaning calendar.now) day }
-    ensures nearest { Answers (NextWithin (meaning calendar.now) 14 day) result }
+    ensures value { result ≡ next_trading_day (C.meaning calendar.now) day }
+    ensures nearest { Answers (NextWithin (C.meaning calendar.now) 14 day) result }
 {
     trading_day_after(calendar, day)
 }
 
 /// The nearest trading day before `day`, within 14 days and with all days down to it known.
 pub fn previous_trading_day<C: Calendar>(calendar: &C, day: u32) -> Option<u32>
-    ensures value { result ≡ previous_trading_day (meaning calendar.now) day }
-    ensures nearest { Answers (PreviousWithin (meaning calendar.now) 14 day) result }
+    ensures value { result ≡ previous_trading_day (C.meaning calendar.now) day }
+    ensures nearest { Answers (PreviousWithin (C.meaning calendar.now) 14 day) result }
 {
     trading_day_before(calendar, day)
 }

@@ -1,4 +1,7 @@
 //! Tests of the calendars on examples.
+
+#![tactic(auto)]
+
 #[cfg(test)]
 mod dates;
 #[cfg(test)]

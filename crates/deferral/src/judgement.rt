@@ -45,7 +45,7 @@ pub fn sizes_ground(price: u64, quantity: u64) -> Option<Refusal>
 /// The trade's tier: that of the schedule where its publication may be deferred.
 fn tier_for<S: Schedule>(schedule: &S, trade: &Trade, turnover: u64) -> Tier
     requires { turnover ≡ trade_turnover trade.now }
-    ensures { result ≡ trade_tier (tier schedule.now) trade.now }
+    ensures { result ≡ trade_tier (S.tier schedule.now) trade.now }
 {
     if !trade.deferrable {
         return Tier::Zero;
@@ -66,7 +66,7 @@ impl Opened {
         clock: u64,
         trade: &Trade,
     ) -> Result<Publication, Refusal>
-        ensures { result ≡ judged_in (tier schedule.now) self.now clock trade.now }
+        ensures { result ≡ judged_in (S.tier schedule.now) self.now clock trade.now }
     {
         if !self.is_open_at(clock) {
             return Err(Refusal::MarketClosed);
@@ -89,7 +89,7 @@ fn judge_at<C: Calendar, S: Schedule>(
     clock: u64,
     trade: &Trade,
 ) -> Result<Publication, Refusal>
-    ensures { result ≡ judged (meaning calendar.now) (tier schedule.now) clock trade.now }
+    ensures { result ≡ judged (C.meaning calendar.now) (S.tier schedule.now) clock trade.now }
 {
     match open_clock_day(calendar, clock) {
         Ok(opened) => opened.judge(schedule, clock, trade),
@@ -104,8 +104,8 @@ pub fn judge_trade<C: Calendar, S: Schedule>(
     clock: u64,
     trade: &Trade,
 ) -> Result<Publication, Refusal>
-    ensures answer { result ≡ judged (meaning calendar.now) (tier schedule.now) clock trade.now }
-    ensures later { LargerNeverEarlier (meaning calendar.now) (tier schedule.now) }
+    ensures answer { result ≡ judged (C.meaning calendar.now) (S.tier schedule.now) clock trade.now }
+    ensures later { LargerNeverEarlier (C.meaning calendar.now) (S.tier schedule.now) }
 {
     judge_at(calendar, schedule, clock, trade)
 }

@@ -1,4 +1,7 @@
 //! How long a trade may stay unseen: deferral schedules, the deadlines of an execution day, and the moment of publication.
+
+#![tactic(auto)]
+
 pub mod annex;
 pub mod deadlines;
 pub mod examples;

@@ -48,7 +48,7 @@ fn noted(day: u32, previous: u32, next: u32, hours: Hours, before: Hours, after:
 
 /// Opens the day: refused where it is no known trading day, then where a neighbour is not found.
 pub fn open_day<C: Calendar>(calendar: &C, day: u32) -> Result<Opened, Refusal>
-    ensures { result ≡ opened (meaning calendar.now) day }
+    ensures { result ≡ opened (C.meaning calendar.now) day }
 {
     let Some(hours) = hours_of(calendar, day) else {
         return Err(Refusal::NoTradingDay);
@@ -70,7 +70,7 @@ pub fn open_day<C: Calendar>(calendar: &C, day: u32) -> Result<Opened, Refusal>
 
 /// Opens the day of the clock.
 pub fn open_clock_day<C: Calendar>(calendar: &C, clock: u64) -> Result<Opened, Refusal>
-    ensures { result ≡ opened (meaning calendar.now) (day_of clock) }
+    ensures { result ≡ opened (C.meaning calendar.now) (day_of clock) }
 {
     match u32::try_from(day_of(clock)) {
         Ok(day) => open_day(calendar, day),

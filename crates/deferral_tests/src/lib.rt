@@ -1,4 +1,7 @@
 //! Tests of the schedules and of publication on examples.
+
+#![tactic(auto)]
+
 #[cfg(test)]
 mod judgements;
 #[cfg(test)]

@@ -1,4 +1,7 @@
 //! What a book keeps between its calls: held days, trades by their codes, keys, totals and lines.
+
+#![tactic(auto)]
+
 pub mod days;
 pub mod keys;
 pub mod listed;

@@ -1,4 +1,7 @@
 //! Reads trades, one to a line, and writes for each when the market may see it.
+
+#![tactic(auto)]
+
 mod flaw;
 mod line;
 

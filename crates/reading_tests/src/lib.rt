@@ -1,4 +1,7 @@
 //! Tests of how numbers, lines and requests are read, on examples.
+
+#![tactic(auto)]
+
 #[cfg(test)]
 mod lines;
 #[cfg(test)]

@@ -1,4 +1,7 @@
 //! Why a call is refused: one case for each ground, with its number.
+
+#![tactic(auto)]
+
 ghost use Rattle.std.specs.Prelude.{◌≡◌};
 ghost use Rattle.refusal.specs.Numbers.{number_of};
 

@@ -1,4 +1,7 @@
 //! The subject of the engine: securities, reports, codes, tape lines, figures, and a report judged against its security.
+
+#![tactic(auto)]
+
 pub mod figures;
 pub mod judgement;
 pub mod line;

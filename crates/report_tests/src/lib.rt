@@ -1,4 +1,7 @@
 //! Tests of securities and reports on examples.
+
+#![tactic(auto)]
+
 #[cfg(test)]
 mod grounds;
 #[cfg(test)]

@@ -1,4 +1,7 @@
 //! The rules over histories of calls: what the calls are, what they answer, and the laws that hold after every history.
+
+#![tactic(auto)]
+
 pub mod call;
 pub mod example;
 pub mod falls_out;

@@ -1,4 +1,7 @@
 //! Prints a year's trading calendar, or a line for each of its days.
+
+#![tactic(auto)]
+
 mod page;
 mod request;
 

@@ -7,6 +7,6 @@ pub returns : goal.returns
 returns g c =
     let m = g.C.Calendar.meaning c.args.calendar.now in
     record {
-      value = c.trading-day-before.ensures;
-      nearest = subst (λ (r : Option ℕ). Answers (PreviousWithin m 14 c.args.day) r) (sym c.trading-day-before.ensures) (previous_nearest m 14 c.args.day);
+      value = c.trading_day_before.ensures;
+      nearest = subst (λ (r : Option ℕ). Answers (PreviousWithin m 14 c.args.day) r) (sym c.trading_day_before.ensures) (previous_nearest m 14 c.args.day);
     }

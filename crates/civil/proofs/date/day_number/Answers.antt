@@ -8,5 +8,5 @@ sums p q r = cc
 
 pub returns : goal.returns
 returns c =
-    let value = sums c.first-day.ensures.value c.days_before.ensures.value c.saturating-sub.ensures in
+    let value = sums c.first_day.ensures.value c.days_before.ensures.value c.saturating_sub.ensures in
     record { value = value; bound = omega arith; dated = λ late low high. ap date_of value ∙ date_of_number c.args.year c.args.day c.args.month late low high }

@@ -8,10 +8,10 @@ use Rattle.civil.proofs.weekday.last_sunday.Goals as goal
 pub returns : goal.returns
 unfolding last_sunday
 returns c =
-    let end = c.day-number-end.result in
-    let is : end ≡ day_number c.args.year c.args.month (month_length c.args.year c.args.month) = c.day-number-end.ensures.value ∙ ap (day_number c.args.year c.args.month) c.length-of.ensures in
+    let end = c.day_number-end.result in
+    let is : end ≡ day_number c.args.year c.args.month (month_length c.args.year c.args.month) = c.day_number-end.ensures.value ∙ ap (day_number c.args.year c.args.month) c.length_of.ensures in
     let long = month_long c.args.year c.args.month in
     record {
-      value = sym (sunday_back c.since-sunday.result 6 end (sym c.since-sunday.ensures) (omega arith) (omega arith)) ∙ ap (sunday_until 7) is;
+      value = sym (sunday_back c.since_sunday.result 6 end (sym c.since_sunday.ensures) (omega arith) (omega arith)) ∙ ap (sunday_until 7) is;
       bound = omega arith;
     }

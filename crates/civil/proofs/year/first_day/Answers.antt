@@ -6,6 +6,6 @@ use Rattle.civil.proofs.year.first_day.Goals as goal
 pub returns : goal.returns
 unfolding leaps
 returns c = record {
-  value = new_year_is c.saturating-sub-years.result ∙ ap days_of_years c.saturating-sub-years.ensures;
+  value = new_year_is c.saturating_sub-years.result ∙ ap days_of_years c.saturating_sub-years.ensures;
   bound = omega arith;
 }

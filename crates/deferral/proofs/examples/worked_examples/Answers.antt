@@ -32,7 +32,7 @@ returns c = record {
     reported_at_ten = λ d. refl;
     reported_at_noon = λ d. refl;
   };
-  two-hours = record {
+  two_hours = record {
     smaller = refl;
     larger = refl;
     alike = record { class = refl; daily = refl };

@@ -7,7 +7,7 @@ use Rattle.ledger.proofs.listed.count_in.Goals as goal
 pub returns-then-place-listed : goal.returns-then-place-listed
 returns-then-place-listed c d =
     set_by (counted_in c.args.slot c.args.sheet c.args.report.now) c.args.listed.now c.args.place d _ _
-    c.if-place-listed.true c.count-in.ensures
+    c.if-place-listed.true c.count_in.ensures
 
 pub returns-else-place-listed : goal.returns-else-place-listed
 returns-else-place-listed c d = sym (set_past c.args.listed.now c.args.place _ c.if-place-listed.false)

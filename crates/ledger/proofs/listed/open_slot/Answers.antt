@@ -6,7 +6,7 @@ use Rattle.ledger.proofs.listed.open_slot.Goals as goal
 pub loop-place-preserved : goal.loop-place-preserved
 loop-place-preserved c = (
   mapped_more moved_on c.args.listed.now c.loop-place.listed c.loop-place.place _ _ (omega arith) (omega arith)
-      c.loop-place.invariant.0 c.move-on.ensures,
+      c.loop-place.invariant.0 c.move_on.ensures,
   omega arith,
 )
 

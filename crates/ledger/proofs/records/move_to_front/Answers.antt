@@ -34,6 +34,6 @@ moved_from xs ys gone count m n m-is n-is is =
 pub returns : goal.returns
 returns c =
     record {
-      moved = moved_from c.args.records.now c.copy-within.new.self c.args.gone c.args.count c.min-count.result c.min-gone.result c.min-count.ensures c.min-gone.ensures c.copy-within.ensures.after;
-      long = c.copy-within.ensures.len;
+      moved = moved_from c.args.records.now c.copy_within.new.self c.args.gone c.args.count c.min-count.result c.min-gone.result c.min-count.ensures c.min-gone.ensures c.copy_within.ensures.after;
+      long = c.copy_within.ensures.len;
     }

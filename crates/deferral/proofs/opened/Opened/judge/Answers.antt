@@ -15,5 +15,5 @@ returns-in-Some g c =
     let turnover : Ground = turnover_ground t.price t.quantity in
     let later = execution_ground o c.args.clock t.execution ∷ [] in
     let seen = published (g.S.Schedule.tier c.args.schedule.now) (unwrap_or (deadlines_for o c.args.clock t.execution) o.today) c.args.clock t in
-    sym (ap (λ (b : Bool). unless (cond (not b) (Some MarketClosed) (first_ground (size ∷ turnover ∷ later))) seen) (sym c.if-not-is-open-at.ensures)
+    sym (ap (λ (b : Bool). unless (cond (not b) (Some MarketClosed) (first_ground (size ∷ turnover ∷ later))) seen) (sym c.if-not-is_open_at.ensures)
     ∙ ap (λ (r : Option Refusal). unless r seen) (first_of_more size turnover later c.in-Some.refusal c.in-Some.ensures))

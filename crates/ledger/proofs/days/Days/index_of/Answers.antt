@@ -12,10 +12,10 @@ answer_finds d code o is rs filed small = subst (Finds rs code) (sym is) (finds 
 
 pub returns : goal.returns
 returns c =
-    let is : c.place-of.result ≡ index_of c.args.self.now c.args.code = search rules in
-    record { value = is; finds = answer_finds c.args.self.now c.args.code c.place-of.result is }
+    let is : c.place_of.result ≡ index_of c.args.self.now c.args.code = search rules in
+    record { value = is; finds = answer_finds c.args.self.now c.args.code c.place_of.result is }
 
-pub returns-in-err-find : goal.returns-in-err-find
-returns-in-err-find c =
+pub returns-in_err-find : goal.returns-in_err-find
+returns-in_err-find c =
     let is : c.from-residual.result ≡ index_of c.args.self.now c.args.code = search rules in
     record { value = is; finds = answer_finds c.args.self.now c.args.code c.from-residual.result is }

@@ -16,9 +16,9 @@ returns c sheet place isin rs small stands mirrors placed =
     placed
     (prices_of c.args.self.now c.args.memory.now)
     mirrors.prices_mirror
-    c.price-start-low.result
-    c.price-end-high.result
-    c.price-start-low.ensures
-    (c.price-end-high.ensures small)
-    c.last-between.result
-    (c.last-between.ensures stands.prices_stand)
+    c.price_start-low.result
+    c.price_end-high.result
+    c.price_start-low.ensures
+    (c.price_end-high.ensures small)
+    c.last_between.result
+    (c.last_between.ensures stands.prices_stand)

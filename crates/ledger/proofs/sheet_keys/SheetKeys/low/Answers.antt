@@ -16,9 +16,9 @@ returns c sheet place isin rs small stands mirrors placed =
     placed
     (prices_of c.args.self.now c.args.memory.now)
     mirrors.prices_mirror
-    c.price-start-low.result
-    c.price-end-high.result
-    c.price-start-low.ensures
-    (c.price-end-high.ensures small)
-    c.first-between.result
-    (c.first-between.ensures stands.prices_stand)
+    c.price_start-low.result
+    c.price_end-high.result
+    c.price_start-low.ensures
+    (c.price_end-high.ensures small)
+    c.first_between.result
+    (c.first_between.ensures stands.prices_stand)

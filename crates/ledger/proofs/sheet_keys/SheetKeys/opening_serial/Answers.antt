@@ -16,9 +16,9 @@ returns c sheet place isin rs small stands mirrors placed =
     placed
     (executions_of c.args.self.now c.args.memory.now)
     mirrors.executions_mirror
-    c.execution-start-low.result
-    c.execution-end-high.result
-    c.execution-start-low.ensures
-    (c.execution-end-high.ensures small)
-    c.first-between.result
-    (c.first-between.ensures stands.executions_stand)
+    c.execution_start-low.result
+    c.execution_end-high.result
+    c.execution_start-low.ensures
+    (c.execution_end-high.ensures small)
+    c.first_between.result
+    (c.first_between.ensures stands.executions_stand)
