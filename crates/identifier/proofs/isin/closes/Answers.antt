@@ -7,4 +7,4 @@ pub returns : goal.returns
 returns c =
     let sum = payload_sum c.args.payload.now in
     ap (λ n. eqb n 0)
-    (kept_sum 10 sum c.payload_sum.result c.from.result c.payload_sum.ensures ∙ ap (λ v. (sum + v) % 10) (c.from.ensures ∙ c.value-of.ensures))
+    (kept_sum 10 sum c.payload_sum.result c.from.result c.payload_sum.ensures ∙ ap (λ v. (sum + v) % 10) (c.from.ensures ∙ c.value_of.ensures))

@@ -6,9 +6,9 @@ use Rattle.identifier.proofs.lei.remainder_of.Goals as goal
 
 pub loop-byte-preserved : goal.loop-byte-preserved
 loop-byte-preserved c =
-    subst (λ (ds : List ℕ). c.remainder-after-remainder.result ≡ number_from_digits 10 ds % 97)
+    subst (λ (ds : List ℕ). c.remainder_after-remainder.result ≡ number_from_digits 10 ds % 97)
     (in_digits_more c.args.text.now c.loop-byte.byte-index c.loop-byte-test.true)
-    (c.remainder-after-remainder.ensures (in_digits (take c.loop-byte.byte-index c.args.text.now)) c.loop-byte.invariant)
+    (c.remainder_after-remainder.ensures (in_digits (take c.loop-byte.byte-index c.args.text.now)) c.loop-byte.invariant)
 
 pub returns : goal.returns
 returns c =

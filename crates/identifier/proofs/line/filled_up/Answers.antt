@@ -7,4 +7,4 @@ pub returns : goal.returns
 returns c =
     let text = c.args.text.now in
     let spaces : drop (length text - 0) (replicate 20 32) ≡ replicate (20 - length text) 32 = ap (λ n. drop n (replicate 20 32)) (sub-zero (length text)) ∙ drop-replicate (length text) 20 32 in
-    ap (λ front. front ++ drop (length text - 0) (replicate 20 32)) c.copy-from-slice.ensures.after ∙ ap (λ rest. text ++ rest) spaces
+    ap (λ front. front ++ drop (length text - 0) (replicate 20 32)) c.copy_from_slice.ensures.after ∙ ap (λ rest. text ++ rest) spaces
