@@ -7,7 +7,7 @@ use Rattle.reading.specs.declared.line.Asked.{Asked}
 use Rattle.reading.proofs.Lines.{Reached, begins, goes_on, gives, ends, ends_many, ends_right}
 use Rattle.reading.proofs.Told.{exits}
 use Rattle.reading.proofs.line.read_line.Goals as goal
-use Rattle.reading.proofs.line.read_line.Goals.{In_ok-class, In_ok-daily, In_ok-price, In_ok-quantity, In_ok-execution, In_ok-clock, In_ok-deferrable, at·returns-in_err-daily, at·returns-in_err-price, at·returns-in_err-quantity, at·returns-in_err-execution, at·returns-in_err-clock, at·returns-in_err-deferrable, at·returns-then-not-are_over, at·returns}
+use Rattle.reading.proofs.line.read_line.Goals.{In_ok-class, In_ok-daily, In_ok-price, In_ok-quantity, In_ok-execution, In_ok-clock, In_ok-deferrable, at-returns-in_err-daily, at-returns-in_err-price, at-returns-in_err-quantity, at-returns-in_err-execution, at-returns-in_err-clock, at-returns-in_err-deferrable, at-returns-then-not-are_over, at-returns}
 
 after-class : (c : goal.In_ok-class) → Reached 1 (words_of c.args.line.now) (words_left c.take_word.new.self)
 after-class c = goes_on 0 class_flaw class_of (begins c.of-words.ensures) c.take_word.ensures.word refl c.take_word.ensures.left c.in_ok-class.ensures
@@ -33,49 +33,49 @@ after-deferrable c reached = goes_on 6 mark_flaw defers reached c.take_word-7.en
 pub returns-in_err-class : goal.returns-in_err-class
 unfolding line_read
 returns-in_err-class c =
-    exits c.from-residual.result _ _ c.from-residual.ensures.1
+    exits c.from_residual.result _ _ c.from_residual.ensures.1
     (ends 0 class_flaw class_of (begins c.of-words.ensures) c.take_word.ensures.word refl c.in_err-class.ensures)
 
 pub returns-in_err-daily : goal.returns-in_err-daily
 unfolding line_read
 returns-in_err-daily c =
     let s = goal.at.returns-in_err-daily c in
-    exits c.from-residual-in_err-daily.result _ _ c.from-residual-in_err-daily.ensures.1
+    exits c.from_residual-in_err-daily.result _ _ c.from_residual-in_err-daily.ensures.1
     (ends 1 (field_flaw Daily) decimal_value (after-class s.In_ok-class) c.take_word-2.ensures.word refl c.in_err-daily.ensures)
 
 pub returns-in_err-price : goal.returns-in_err-price
 unfolding line_read
 returns-in_err-price c =
     let s = goal.at.returns-in_err-price c in
-    exits c.from-residual-in_err-price.result _ _ c.from-residual-in_err-price.ensures.1
+    exits c.from_residual-in_err-price.result _ _ c.from_residual-in_err-price.ensures.1
     (ends 2 (field_flaw Price) decimal_value (after-daily s.In_ok-daily (after-class s.In_ok-class)) c.take_word-3.ensures.word refl c.in_err-price.ensures)
 
 pub returns-in_err-quantity : goal.returns-in_err-quantity
 unfolding line_read
 returns-in_err-quantity c =
     let s = goal.at.returns-in_err-quantity c in
-    exits c.from-residual-in_err-quantity.result _ _ c.from-residual-in_err-quantity.ensures.1
+    exits c.from_residual-in_err-quantity.result _ _ c.from_residual-in_err-quantity.ensures.1
     (ends 3 (field_flaw Quantity) decimal_value (after-price s.In_ok-price (after-daily s.In_ok-daily (after-class s.In_ok-class))) c.take_word-4.ensures.word refl c.in_err-quantity.ensures)
 
 pub returns-in_err-execution : goal.returns-in_err-execution
 unfolding line_read
 returns-in_err-execution c =
     let s = goal.at.returns-in_err-execution c in
-    exits c.from-residual-in_err-execution.result _ _ c.from-residual-in_err-execution.ensures.1
+    exits c.from_residual-in_err-execution.result _ _ c.from_residual-in_err-execution.ensures.1
     (ends 4 (field_flaw Execution) decimal_value (after-quantity s.In_ok-quantity (after-price s.In_ok-price (after-daily s.In_ok-daily (after-class s.In_ok-class)))) c.take_word-5.ensures.word refl c.in_err-execution.ensures)
 
 pub returns-in_err-clock : goal.returns-in_err-clock
 unfolding line_read
 returns-in_err-clock c =
     let s = goal.at.returns-in_err-clock c in
-    exits c.from-residual-in_err-clock.result _ _ c.from-residual-in_err-clock.ensures.1
+    exits c.from_residual-in_err-clock.result _ _ c.from_residual-in_err-clock.ensures.1
     (ends 5 (field_flaw Clock) decimal_value (after-execution s.In_ok-execution (after-quantity s.In_ok-quantity (after-price s.In_ok-price (after-daily s.In_ok-daily (after-class s.In_ok-class))))) c.take_word-6.ensures.word refl c.in_err-clock.ensures)
 
 pub returns-in_err-deferrable : goal.returns-in_err-deferrable
 unfolding line_read
 returns-in_err-deferrable c =
     let s = goal.at.returns-in_err-deferrable c in
-    exits c.from-residual-in_err-deferrable.result _ _ c.from-residual-in_err-deferrable.ensures.1
+    exits c.from_residual-in_err-deferrable.result _ _ c.from_residual-in_err-deferrable.ensures.1
     (ends 6 mark_flaw defers (after-clock s.In_ok-clock (after-execution s.In_ok-execution (after-quantity s.In_ok-quantity (after-price s.In_ok-price (after-daily s.In_ok-daily (after-class s.In_ok-class)))))) c.take_word-7.ensures.word refl c.in_err-deferrable.ensures)
 
 pub returns-then-not-are_over : goal.returns-then-not-are_over

@@ -11,7 +11,7 @@ returns-in_err-value c =
     let same = sym (value_more word i c.loop-byte.value c.loop-byte-test.true) ∙ c.loop-byte.invariant.0 in
     let large : 2 ^ 64 ≤ n = large_from_fitting n c.in_err-value.ensures in
     let whole : 2 ^ 64 ≤ decimal_value word = omega (arith, value_ge word (i + 1) n, same) in
-    c.from-residual.ensures ∙ fitting_large (decimal_value word) whole
+    c.from_residual.ensures ∙ fitting_large (decimal_value word) whole
 
 pub loop-byte-preserved : goal.loop-byte-preserved
 loop-byte-preserved c =

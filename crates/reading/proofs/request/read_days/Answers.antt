@@ -6,10 +6,10 @@ use Rattle.reading.proofs.request.read_days.Goals as goal
 
 pub returns-in_err-first : goal.returns-in_err-first
 returns-in_err-first c =
-    exits c.from-residual.result _ _ c.from-residual.ensures.1 (stops year_fault decimal_value c.args.first.now _ _ _ _ refl c.in_err-first.ensures)
+    exits c.from_residual.result _ _ c.from_residual.ensures.1 (stops year_fault decimal_value c.args.first.now _ _ _ _ refl c.in_err-first.ensures)
 
 pub returns-in_err-last : goal.returns-in_err-last
 returns-in_err-last c =
-    exits c.from-residual-in_err-last.result _ _ c.from-residual-in_err-last.ensures.1
+    exits c.from_residual-in_err-last.result _ _ c.from_residual-in_err-last.ensures.1
     (stops year_fault decimal_value c.args.last.now _ _ _ _ refl c.in_err-last.ensures
     ∙ sym (passes year_fault decimal_value c.args.first.now _ _ _ _ refl c.in_ok-first.ensures))
