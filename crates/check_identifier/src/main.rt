@@ -1,4 +1,6 @@
 //! Reads lines of a word and a text, and writes each with what is found of it.
+#![tactic(auto)]
+
 use identifier::judge;
 use std::io;
 use std::io::{BufRead, BufReader, Write};

@@ -1,4 +1,6 @@
 //! Identifiers of securities and of the parties to a trade, and the checks on them.
+#![tactic(auto)]
+
 mod class;
 mod counterparty;
 mod examples;
