@@ -1,12 +1,12 @@
 -- Lists of keys under an order: which keys they hold, and the parts of them that calls speak of.
 use Rattle.std.specs.Prelude.{◌≡◌, Bool, true, false, cond, not, ◌||◌, List, [], ◌∷◌, ◌++◌, Some, None, filter, Option}
-use Rattle.std.specs.List.{AllByRecursion as All}
+use Rattle.std.specs.List.{AllByRecursion}
 use Rattle.register.specs.Order.{same}
 
 -- each key is before all that follow it
 abbrev pub Rising : {K : Type 0} → (K → K → Bool) → List K → Type 0
 Rising lt [] = Unit {0}
-Rising lt (x ∷ xs) = All (λ y. lt x y ≡ true) xs × Rising lt xs
+Rising lt (x ∷ xs) = AllByRecursion (λ y. lt x y ≡ true) xs × Rising lt xs
 
 -- the key is in the list
 abbrev pub has : {K : Type 0} → (K → K → Bool) → K → List K → Bool

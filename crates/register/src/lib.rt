@@ -1,6 +1,8 @@
 //! An ordered register of keys over memory that the caller lends to each call.
 //!
 //! What a register keeps is `kept`, the list of its keys in order, and nothing else of the memory has a meaning to its caller.
+#![tactic(auto)]
+
 ghost use Rattle.std.specs.Prelude.{◌≡◌, ◌≤◌, List, [], length};
 ghost use Rattle.register.specs.Answers.{IfRefused, IfAbsent};
 ghost use Rattle.register.specs.Calls.{Smallest, Largest, FirstFrom, LastBefore, Putting, TakingOut, Dropping};
@@ -32,9 +34,9 @@ pub struct Register<K> {
 impl<K: Key> Register<K> {
     /// A register that keeps no key, over whatever memory.
     pub fn new() -> Register<K>
-        ensures stands { (memory : List K) → Stands below result memory }
+        ensures stands { (memory : List K) → Stands K.below result memory }
         ensures empty { (memory : List K) → kept result memory ≡ [] }
-        ensures laws { Laws {K = K} below }
+        ensures laws { Laws {K = K} K.below }
     {
         Register::keeping(0)
     }
@@ -57,14 +59,14 @@ impl<K: Key> Register<K> {
 
     /// The smallest key.
     pub fn smallest(&self, memory: &[K]) -> Option<K>
-        ensures { Stands below self.now memory.now → Smallest below (kept self.now memory.now) result }
+        ensures { Stands K.below self.now memory.now → Smallest K.below (kept self.now memory.now) result }
     {
         key_at(self.keys(memory), 0)
     }
 
     /// The largest key.
     pub fn largest(&self, memory: &[K]) -> Option<K>
-        ensures { Stands below self.now memory.now → Largest below (kept self.now memory.now) result }
+        ensures { Stands K.below self.now memory.now → Largest K.below (kept self.now memory.now) result }
     {
         let keys = self.keys(memory);
         last_of(keys, keys.len())
@@ -72,7 +74,7 @@ impl<K: Key> Register<K> {
 
     /// The first key from `low` on. Where it is before a bound, it is the least key of the stretch from `low` to that bound.
     pub fn first_from(&self, memory: &[K], low: K) -> Option<K>
-        ensures { Stands below self.now memory.now → FirstFrom below low (kept self.now memory.now) result }
+        ensures { Stands K.below self.now memory.now → FirstFrom K.below low (kept self.now memory.now) result }
     {
         let keys = self.keys(memory);
         key_at(keys, place(keys, low))
@@ -80,7 +82,7 @@ impl<K: Key> Register<K> {
 
     /// The last key before `high`. Where it is not before a bound, it is the greatest key of the stretch from that bound to `high`.
     pub fn last_before(&self, memory: &[K], high: K) -> Option<K>
-        ensures { Stands below self.now memory.now → LastBefore below high (kept self.now memory.now) result }
+        ensures { Stands K.below self.now memory.now → LastBefore K.below high (kept self.now memory.now) result }
     {
         let keys = self.keys(memory);
         last_of(keys, place(keys, high))
@@ -88,14 +90,14 @@ impl<K: Key> Register<K> {
 
     /// How many keys are before `high`.
     pub fn count_before(&self, memory: &[K], high: K) -> usize
-        ensures { Stands below self.now memory.now → result ≡ length (before_key below high (kept self.now memory.now)) }
+        ensures { Stands K.below self.now memory.now → result ≡ length (before_key K.below high (kept self.now memory.now)) }
     {
         place(self.keys(memory), high)
     }
 
     /// Puts a key in its place.
     pub fn put(&mut self, memory: &mut [K], key: K) -> Put
-        ensures put { Stands below self.old memory.old → Putting below key self.old memory.old self.new memory.new result }
+        ensures put { Stands K.below self.old memory.old → Putting K.below key self.old memory.old self.new memory.new result }
         ensures refused { IfRefused result ((self.new ≡ self.old) × (memory.new ≡ memory.old)) }
     {
         let keys = self.keys(memory);
@@ -111,7 +113,7 @@ impl<K: Key> Register<K> {
 
     /// Takes a key out.
     pub fn take_out(&mut self, memory: &mut [K], key: K) -> Out
-        ensures taken { Stands below self.old memory.old → TakingOut below key self.old memory.old self.new memory.new result }
+        ensures taken { Stands K.below self.old memory.old → TakingOut K.below key self.old memory.old self.new memory.new result }
         ensures absent { IfAbsent result ((self.new ≡ self.old) × (memory.new ≡ memory.old)) }
     {
         let keys = self.keys(memory);
@@ -127,7 +129,7 @@ impl<K: Key> Register<K> {
 
     /// Drops all keys before `low`, in one move, and says how many went.
     pub fn drop_before(&mut self, memory: &mut [K], low: K) -> usize
-        ensures dropped { Stands below self.old memory.old → Dropping below low self.old memory.old self.new memory.new result }
+        ensures dropped { Stands K.below self.old memory.old → Dropping K.below low self.old memory.old self.new memory.new result }
         ensures none { result ≡ 0 → ((self.new ≡ self.old) × (memory.new ≡ memory.old)) }
     {
         let keys = self.keys(memory);

@@ -30,7 +30,7 @@ impl Span {
 // How many keys are before `key`: there it stands or would stand.
 pub(crate) fn place<K: Key>(keys: &[K], key: K) -> usize
     ensures within { result ≤ length keys.now }
-    ensures cut { Rising below keys.now → Cut below key keys.now result }
+    ensures cut { Rising K.below keys.now → Cut K.below key keys.now result }
 {
     let mut span = Span {
         low: 0,
@@ -56,7 +56,7 @@ pub(crate) struct Spot {
 
 pub(crate) fn find<K: Key>(keys: &[K], key: K) -> Spot
     ensures within { (result.at ≤ length keys.now) × (result.present ≡ true → result.at < length keys.now) }
-    ensures found { Rising below keys.now → Spotted below key keys.now result.at result.present }
+    ensures found { Rising K.below keys.now → Spotted K.below key keys.now result.at result.present }
 {
     let at = place(keys, key);
     if at == keys.len() || key.before(keys[at]) {

@@ -8,8 +8,8 @@ returns-in-Entered g c = record {
   refused = rw c.in-Entered.is tt;
 }
 
-pub returns-in-default : goal.returns-in-default
-returns-in-default g c = record {
-  put = λ s. put_refused g.K.Key.below g.met.K.Key.ordered c.args.key c.args.self.now c.args.memory.now c.keys-keys.result.now c.keys-keys.ensures.value s c.find-spot.result.at c.find-spot.result.present c.find-spot.ensures.found c.judged-answer.result c.judged-answer.ensures c.in-default.not-Entered;
+pub returns-in_default : goal.returns-in_default
+returns-in_default g c = record {
+  put = λ s. put_refused g.K.Key.below g.met.K.Key.ordered c.args.key c.args.self.now c.args.memory.now c.keys-keys.result.now c.keys-keys.ensures.value s c.find-spot.result.at c.find-spot.result.present c.find-spot.ensures.found c.judged-answer.result c.judged-answer.ensures c.in_default.not-Entered;
   refused = refused_same c.judged-answer.result _ (refl, refl);
 }

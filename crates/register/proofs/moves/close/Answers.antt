@@ -8,7 +8,7 @@ pub loop-i-init : goal.loop-i-init
 loop-i-init g c = paste_none c.args.memory.now c.args.at (drop c.args.past c.args.memory.now)
 
 pub loop-i-preserved : goal.loop-i-preserved
-loop-i-preserved g c = part_more c.args.memory.now c.args.at c.args.past c.requires.0 c.loop-i.memory c.copy-key.new.memory c.loop-i.i (omega arith) c.loop-i.invariant c.copy-key.ensures
+loop-i-preserved g c = part_more c.args.memory.now c.args.at c.args.past c.requires.0 c.loop-i.memory c.copy_key.new.memory c.loop-i.i (omega arith) c.loop-i.invariant c.copy_key.ensures
 
 pub returns : goal.returns
 returns g c =

@@ -3,7 +3,7 @@ use Rattle.register.proofs.Holes.{hole_down, opened}
 use Rattle.register.proofs.moves.open.Goals as goal
 
 pub loop-i-preserved : goal.loop-i-preserved
-loop-i-preserved g c = (omega arith, omega arith, hole_down c.loop-i.memory c.copy-key.new.memory c.loop-i.i (omega arith) (omega arith) c.copy-key.ensures ∙ c.loop-i.invariant.2)
+loop-i-preserved g c = (omega arith, omega arith, hole_down c.loop-i.memory c.copy_key.new.memory c.loop-i.i (omega arith) (omega arith) c.copy_key.ensures ∙ c.loop-i.invariant.2)
 
 pub returns : goal.returns
 returns g c =

@@ -14,7 +14,7 @@ returns-then-at-keys g c =
             | then-at-keys-via-then-at-keys w ↦ gap_end g.K.Key.below c.args.key c.args.keys.now g.met.K.Key.ordered at w.if-at-keys.true (c.place-at.ensures.cut u)
             | then-at-keys-via-else-at-keys+then-before w ↦
                 let h : at < length c.args.keys.now = omega arith in
-                gap_at g.K.Key.below c.args.key c.args.keys.now g.met.K.Key.ordered u at w.index-keys-at.result h w.index-keys-at.is (c.place-at.ensures.cut u) w.if_before.ensures
+                gap_at g.K.Key.below c.args.key c.args.keys.now g.met.K.Key.ordered u at w.index-keys-at.result h w.index-keys-at.is (c.place-at.ensures.cut u) w.if-before.ensures
           ];
     }
 
@@ -24,5 +24,5 @@ returns g c =
     let h : at < length c.args.keys.now = omega arith in
     record {
       within = (c.place-at.ensures.within, λ e. h);
-      found = λ u. here_at g.K.Key.below c.args.key c.args.keys.now g.met.K.Key.ordered u at c.index-keys-at.result h c.index-keys-at.is (c.place-at.ensures.cut u) c.if_before.ensures;
+      found = λ u. here_at g.K.Key.below c.args.key c.args.keys.now g.met.K.Key.ordered u at c.index-keys-at.result h c.index-keys-at.is (c.place-at.ensures.cut u) c.if-before.ensures;
     }

@@ -11,14 +11,14 @@ pub loop-key-preserved-then-before : goal.loop-key-preserved-then-before
 loop-key-preserved-then-before g c = (
   omega arith,
   omega arith,
-  λ u. (all_to g.K.Key.below c.args.key c.args.keys.now g.met.K.Key.ordered u _ c.index-keys-middle.result (omega arith) c.index-keys-middle.is c.if_before.ensures, (c.loop-key.invariant.2 u).1),
+  λ u. (all_to g.K.Key.below c.args.key c.args.keys.now g.met.K.Key.ordered u _ c.index-keys-middle.result (omega arith) c.index-keys-middle.is c.if-before.ensures, (c.loop-key.invariant.2 u).1),
 )
 
 pub loop-key-preserved : goal.loop-key-preserved
 loop-key-preserved g c = (
   omega arith,
   omega arith,
-  λ u. ((c.loop-key.invariant.2 u).0, none_from g.K.Key.below c.args.key c.args.keys.now g.met.K.Key.ordered u _ c.index-keys-middle.result (omega arith) c.index-keys-middle.is c.if_before.ensures),
+  λ u. ((c.loop-key.invariant.2 u).0, none_from g.K.Key.below c.args.key c.args.keys.now g.met.K.Key.ordered u _ c.index-keys-middle.result (omega arith) c.index-keys-middle.is c.if-before.ensures),
 )
 
 pub returns : goal.returns
