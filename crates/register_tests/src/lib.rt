@@ -1,4 +1,6 @@
 //! Tests of the register at each kind of key: small and full, over a stranger's memory and over none.
+#![tactic(auto)]
+
 #[cfg(test)]
 mod scenarios;
 

@@ -34,8 +34,9 @@ pub fn full<K: Key + PartialEq + Debug + Drop>(rt: &impl Abort, [a, b, c, d]: [K
     assert_eq!(rt; register.put(&mut memory, a), Put::Entered);
     assert_eq!(rt; register.put(&mut memory, b), Put::Present);
     assert_eq!(rt; register.put(&mut memory, d), Put::Full);
-    assert_eq!(rt; memory[0], a);
-    assert_eq!(rt; memory[2], c);
+    let places = &memory[..];
+    assert_eq!(rt; places[0], a);
+    assert_eq!(rt; places[2], c);
     assert_eq!(rt; register.drop_before(&mut memory, a), 0);
     assert_eq!(rt; register.drop_before(&mut memory, c), 2);
     assert_eq!(rt; register.smallest(&memory), Some(c));
@@ -67,8 +68,9 @@ pub fn in_wild_memory<K: Key + PartialEq + Debug + Drop>(rt: &impl Abort, [a, b,
     let mut wild = [d, c];
     assert_eq!(rt; register.put(&mut wild, b), Put::Full);
     assert_eq!(rt; register.take_out(&mut wild, a), Out::Absent);
-    assert_eq!(rt; wild[0], d);
-    assert_eq!(rt; wild[1], c);
+    let places = &wild[..];
+    assert_eq!(rt; places[0], d);
+    assert_eq!(rt; places[1], c);
     assert_eq!(rt; register.drop_before(&mut wild, a), 0);
     assert_eq!(rt; register.first_from(&wild, a), Some(d));
     assert_eq!(rt; register.last_before(&wild, a), None);
