@@ -1,6 +1,6 @@
 -- Records filed in the order of their codes, so that a code is an index.
 use Rattle.std.specs.Prelude.{◌≡◌, ℕ, ◌<◌, false, List, [], ◌∷◌, ◌++◌, map, length, get_or, Some, None, Option, slice_index_or, slice_set}
-use Rattle.std.specs.List.{AllByRecursion as All}
+use Rattle.std.specs.List.{AllByRecursion}
 use Rattle.report.specs.declared.report.Code.{Code}
 use Rattle.rulebook.specs.declared.record.Record.{Record}
 use Rattle.rulebook.specs.Lists.{first_of, numbers}
@@ -21,7 +21,7 @@ all_codes (h ∷ hs) = all_codes hs ++ codes_of h
 -- no two codes are the same
 abbrev pub Apart : List Code → Type 0
 Apart [] = Unit {0}
-Apart (c ∷ cs) = All (λ e. same_code c e ≡ false) cs × Apart cs
+Apart (c ∷ cs) = AllByRecursion (λ e. same_code c e ≡ false) cs × Apart cs
 
 -- each day begins behind the trades of the older days
 abbrev pub Begin : List HeldDay → Type 0
@@ -30,7 +30,7 @@ Begin (h ∷ hs) = (h.first ≡ length (all_codes hs)) × Begin hs
 
 -- a day's number is after those of all these days
 abbrev pub Later : ℕ → List HeldDay → Type 0
-Later day hs = All (λ h. h.opened.day < day) hs
+Later day hs = AllByRecursion (λ h. h.opened.day < day) hs
 
 -- each day is later than the days behind it
 abbrev pub Falling : List HeldDay → Type 0
@@ -56,7 +56,7 @@ pub record Stands (rs : List Record) (code : Code) (i : ℕ) : Type 0 where
 
 -- no trade has the code
 pub record Missing (rs : List Record) (code : Code) : Type 0 where
-  pub none : All (λ t. same_code t.code code ≡ false) rs
+  pub none : AllByRecursion (λ t. same_code t.code code ≡ false) rs
   pub found : first_of (λ t. same_code t.code code) rs ≡ None
   pub changes : (f : Record → Record) → changed code f rs ≡ rs
 

@@ -1,6 +1,6 @@
 -- What is read off the keys of a sheet, held to the trades.
 use Rattle.std.specs.Prelude.{◌≡◌, ℕ, ◌<◌, List, Some, None, filter, Option, ◌==◌}
-use Rattle.std.specs.List.{AllByRecursion as All}
+use Rattle.std.specs.List.{AllByRecursion}
 use Rattle.identifier.specs.declared.isin.Isin.{Isin}
 use Rattle.report.specs.declared.figures.Sheet.{Sheet}
 use Rattle.rulebook.specs.declared.record.Record.{Record}
@@ -19,7 +19,7 @@ pub record SheetMirrors (sheet : Sheet) (place : Isin → ℕ) (rs : List Record
 
 -- the trades of a security are those whose security has its place
 abbrev pub Placed : (Isin → ℕ) → Isin → ℕ → List Record → Type 0
-Placed place isin security rs = All (λ t. same_isin t.report.isin isin ≡ (place t.report.isin == security)) rs
+Placed place isin security rs = AllByRecursion (λ t. same_isin t.report.isin isin ≡ (place t.report.isin == security)) rs
 
 -- what is read is what the trades of the security and the day on the sheet give
 abbrev pub ReadsOff : (List Record → Option ℕ) → SheetKeys → SheetMemory → ℕ → ℕ → Option ℕ → Type 0

@@ -1,6 +1,6 @@
 -- The totals of the listed securities, as they are written and as they are held to the trades.
 use Rattle.std.specs.Prelude.{◌≡◌, ℕ, ◌^◌, ◌<◌, ◌≤◌, true, false, List, [], ◌∷◌, map, length, get_or, is_some, filter, slice_index, slice_index_or, slice_set}
-use Rattle.std.specs.List.{AllByRecursion as All}
+use Rattle.std.specs.List.{AllByRecursion}
 use Rattle.report.specs.declared.figures.Sheet.{Sheet}
 use Rattle.report.specs.declared.figures.Sheet.TheVariants.{Full, Public}
 use Rattle.report.specs.declared.report.Code.{Code}
@@ -62,7 +62,7 @@ pub record TotalsIn (sheet : Sheet) (days : List ℕ) (rs : List Record) (l : Li
 
 -- so are those of each listed security; the days are held the latest first
 abbrev pub TotalsOn : Sheet → List Listed → List ℕ → List Record → Type 0
-TotalsOn sheet ls days rs = All (TotalsIn sheet days rs) ls
+TotalsOn sheet ls days rs = AllByRecursion (TotalsIn sheet days rs) ls
 
 -- on both sheets
 abbrev pub TotalsOf : List Listed → List ℕ → List Record → Type 0
@@ -71,7 +71,7 @@ TotalsOf ls days rs = (sheet : Sheet) → TotalsOn sheet ls days rs
 -- no two have one ISIN
 abbrev pub Apart : List Security → Type 0
 Apart [] = Unit {0}
-Apart (s ∷ ss) = All (λ x. same_isin s.isin x.isin ≡ false) ss × Apart ss
+Apart (s ∷ ss) = AllByRecursion (λ x. same_isin s.isin x.isin ≡ false) ss × Apart ss
 
 -- no two are one day
 abbrev pub Distinct : List ℕ → Type 0
@@ -82,7 +82,7 @@ abbrev pub Small : Record → Type 0
 Small t = (t.report.quantity < 2 ^ 32) × (turnover_of t.report ≤ 1000000000000000)
 
 abbrev pub Few : List Record → Type 0
-Few rs = (length rs ≤ 4096) × All Small rs
+Few rs = (length rs ≤ 4096) × AllByRecursion Small rs
 
 -- the trade's security stands at the place, and its day is that of the slot
 pub record StandsAt (ls : List Listed) (days : List ℕ) (t : Record) (place slot : ℕ) : Type 0 where
@@ -99,9 +99,9 @@ CodesApart rs =
 -- the one trade of a code, between the others
 pub record OnlyOne (code : Code) (xs : List Record) (t : Record) (ys : List Record) : Type 0 where
   pub its : same_code t.code code ≡ true
-  pub before : All (λ u. same_code u.code code ≡ false) xs
-  pub behind : All (λ u. same_code u.code code ≡ false) ys
+  pub before : AllByRecursion (λ u. same_code u.code code ≡ false) xs
+  pub behind : AllByRecursion (λ u. same_code u.code code ≡ false) ys
 
 -- the security of each trade is listed
 abbrev pub EachListed : List Security → List Record → Type 0
-EachListed ss rs = All (λ t. is_some (first_of (λ s. same_isin s.isin t.report.isin) ss) ≡ true) rs
+EachListed ss rs = AllByRecursion (λ t. is_some (first_of (λ s. same_isin s.isin t.report.isin) ss) ≡ true) rs

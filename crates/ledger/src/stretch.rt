@@ -11,7 +11,7 @@ pub(crate) fn first_between<K: Key>(
     low: K,
     high: K,
 ) -> Option<K>
-    ensures { Stands below register.now memory.now → Least below (between below low high (kept register.now memory.now)) result }
+    ensures { Stands K.below register.now memory.now → Least K.below (between K.below low high (kept register.now memory.now)) result }
 {
     let key = register.first_from(memory, low)?;
     if key.before(high) { Some(key) } else { None }
@@ -24,7 +24,7 @@ pub(crate) fn last_between<K: Key>(
     low: K,
     high: K,
 ) -> Option<K>
-    ensures { Stands below register.now memory.now → Greatest below (between below low high (kept register.now memory.now)) result }
+    ensures { Stands K.below register.now memory.now → Greatest K.below (between K.below low high (kept register.now memory.now)) result }
 {
     let key = register.last_before(memory, high)?;
     if key.before(low) { None } else { Some(key) }

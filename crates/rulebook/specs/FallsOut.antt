@@ -1,6 +1,6 @@
 -- A day that falls out has no waiting trade.
 use Rattle.std.specs.Prelude.{◌≡◌, Bool, true, false, [], None}
-use Rattle.std.specs.List.{AllByRecursion as All}
+use Rattle.std.specs.List.{AllByRecursion}
 use Rattle.calendar.specs.Meaning.{Lawful as Kept}
 use Rattle.rulebook.specs.declared.call.Call.TheVariants.{Open}
 use Rattle.rulebook.specs.Notebook.{Rules, Notebook, among, waits}
@@ -13,7 +13,7 @@ use Rattle.rulebook.specs.Histories.{History, Lawful, desk_after}
 abbrev pub NoneWaits : Type 0
 NoneWaits =
     (rules : Rules) → Kept rules.calendar → (h : History) → Lawful rules h → ground rules (desk_after rules h) Open ≡ None
-    → All (λ t. among (taken rules (desk_after rules h) Open).notebook.days t.code.day ≡ false → waits t.state ≡ false)
+    → AllByRecursion (λ t. among (taken rules (desk_after rules h) Open).notebook.days t.code.day ≡ false → waits t.state ≡ false)
     (desk_after rules h).notebook.records
 
 -- after every lawful history nothing is due: what is due is published at once, so calls that move no clock and take no trade publish none

@@ -1,6 +1,6 @@
 -- What every desk keeps, whichever calendars and schedules its calls were lent.
 use Rattle.std.specs.Prelude.{◌≡◌, ℕ, ◌+◌, ◌*◌, ◌<◌, ◌≤◌, true, false, List, [], ◌∷◌, length, is_some, None, sum_by}
-use Rattle.std.specs.List.{AllByRecursion as All}
+use Rattle.std.specs.List.{AllByRecursion}
 use Rattle.calendar.specs.Meaning.{Lawful as Kept}
 use Rattle.deferral.specs.declared.deadlines.Deadlines.{Deadlines}
 use Rattle.deferral.specs.declared.opened.Opened.{Opened}
@@ -42,12 +42,12 @@ pub record InTime (o : Opened) (t : Record) : Type 0 where
   pub moment : t.moment ≤ end_of o.next
 
 abbrev pub Timed : List Opened → Record → Type 0
-Timed days t = All (λ o. o.day ≡ t.code.day → InTime o t) days
+Timed days t = AllByRecursion (λ o. o.day ≡ t.code.day → InTime o t) days
 
 -- no two trades have one code
 abbrev pub Different : List Record → Type 0
 Different [] = Unit {0}
-Different (t ∷ ts) = All (λ u. same_code t.code u.code ≡ false) ts × Different ts
+Different (t ∷ ts) = AllByRecursion (λ u. same_code t.code u.code ≡ false) ts × Different ts
 
 -- how many lines have told of a trade
 abbrev pub told_of : State → ℕ
@@ -58,17 +58,17 @@ told_of Recalled = 2
 
 pub record Sound (sizes : Sizes) (d : Desk) : Type 0 where
   -- days
-  pub proper : All Proper d.notebook.days
+  pub proper : AllByRecursion Proper d.notebook.days
   pub spaced : Spaced d.notebook.days
   pub three : length d.notebook.days ≤ 3
   -- trades
-  pub held : All (λ t. among d.notebook.days t.code.day ≡ true) d.notebook.records
-  pub timed : All (Timed d.notebook.days) d.notebook.records
+  pub held : AllByRecursion (λ t. among d.notebook.days t.code.day ≡ true) d.notebook.records
+  pub timed : AllByRecursion (Timed d.notebook.days) d.notebook.records
   -- none was executed after the clock
-  pub executed : All (λ t. t.report.execution ≤ d.notebook.clock) d.notebook.records
-  pub undue : All (λ t. is_due d.notebook.clock t ≡ false) d.notebook.records
-  pub listed : All (λ t. is_some (security_of d.notebook t.report.isin) ≡ true) d.notebook.records
-  pub sized : All (λ t. t.report.price * t.report.quantity ≤ 1000000000000000) d.notebook.records
+  pub executed : AllByRecursion (λ t. t.report.execution ≤ d.notebook.clock) d.notebook.records
+  pub undue : AllByRecursion (λ t. is_due d.notebook.clock t ≡ false) d.notebook.records
+  pub listed : AllByRecursion (λ t. is_some (security_of d.notebook t.report.isin) ≡ true) d.notebook.records
+  pub sized : AllByRecursion (λ t. t.report.price * t.report.quantity ≤ 1000000000000000) d.notebook.records
   -- numbers
   pub told : d.notebook.written ≤ sum_by (λ t. told_of t.state) d.notebook.records
   pub records : length d.notebook.records ≤ sizes.records

@@ -2,8 +2,8 @@ use Rattle.std.proofs.Common.{◌<◌, length, sym, refl, arith, rules}
 use Rattle.ledger.proofs.Listing.{place_below, lists_over, lists_behind, lists_not}
 use Rattle.ledger.proofs.listed.list.Goals as goal
 
-pub offset-bounds-listed-place : goal.offset-bounds-listed-place
-offset-bounds-listed-place c =
+pub offset_bounds-listed-place : goal.offset_bounds-listed-place
+offset_bounds-listed-place c =
     let h : c.in-Some.place < c.args.count =
     place_below c.args.security.now c.args.count c.args.listed.now c.if-count-listed.false c.in-Some.place
     (sym c.in-Some.ensures) in

@@ -17,5 +17,5 @@ returns c =
 
 pub returns-in_err-find : goal.returns-in_err-find
 returns-in_err-find c =
-    let is : c.from-residual.result ≡ index_of c.args.self.now c.args.code = search rules in
-    record { value = is; finds = answer_finds c.args.self.now c.args.code c.from-residual.result is }
+    let is : c.from_residual.result ≡ index_of c.args.self.now c.args.code = search rules in
+    record { value = is; finds = answer_finds c.args.self.now c.args.code c.from_residual.result is }
