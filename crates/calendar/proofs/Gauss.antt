@@ -1,12 +1,12 @@
 -- Easter counted in days after 22 March.
-use Rattle.std.proofs.Common.{◌≡◌, ℕ, zero, suc, ◌+◌, ◌-◌, ◌%◌, ◌<◌, ◌≤◌, Bool, true, false, cond, ◌&&◌, eqb, ltb, leb, get_or, sym, refl, ap, ◌∙◌, subst, inl, inr, arith}
+use Rattle.std.proofs.Common.{◌≡◌, ℕ, zero, suc, ◌+◌, ◌-◌, ◌%◌, ◌<◌, ◌≤◌, Bool, true, cond, ◌&&◌, eqb, ltb, leb, get_or, sym, refl, ap, ◌∙◌, subst, inl, inr, arith}
 use Rattle.std.proofs.lemmas.Bool.{and_parts, cases_lt, leb-true, eqb-true}
 use Rattle.std.proofs.lemmas.Bool.Decides.{nat_tests}
 use Rattle.civil.specs.Dates.{day_number}
 use Rattle.civil.specs.Weekdays.{week_from_day_zero}
 use Rattle.civil.specs.declared.weekday.Weekday.TheVariants.{Thursday}
 use Rattle.civil.specs.declared.month.Month.TheVariants.{March, April}
-use Rattle.calendar.specs.Easter.{in_moon_cycle, to_full_moon, to_sunday, reckoned, easter_sunday, after_22_march, ASunday}
+use Rattle.calendar.specs.Easter.{in_moon_cycle, to_full_moon, to_sunday, easter_sunday, after_22_march, ASunday}
 
 -- a day of April as days after 22 March
 in_april : (y k : ℕ) → day_number y April (k + 1) ≡ day_number y March 22 + (k + 10)

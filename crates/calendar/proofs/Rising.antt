@@ -1,11 +1,10 @@
 -- Lists of days that rise.
-use Rattle.std.proofs.Common.{◌≡◌, ℕ, zero, suc, ◌+◌, ◌<◌, ◌≤◌, Bool, true, false, cond, ◌&&◌, ◌||◌, eqb, leb, ◌≢◌, ◌⊎◌, List, [], ◌∷◌, length, get_or, drop, sym, refl, ap, ◌∙◌, subst, inl, inr, le_refl, le_of_suc-le-suc, not-suc-le-zero, add-zero, arith, length-drop}
+use Rattle.std.proofs.Common.{◌≡◌, ℕ, zero, suc, ◌+◌, ◌<◌, ◌≤◌, Bool, true, false, cond, eqb, ◌≢◌, List, [], ◌∷◌, length, get_or, drop, sym, refl, ap, ◌∙◌, subst, inl, inr, le_refl, le_of_suc-le-suc, not-suc-le-zero, add-zero, arith, length-drop}
 use Rattle.std.proofs.lemmas.List.{at_drop_more, get_or-drop}
-use Rattle.std.proofs.lemmas.Bool.{and_parts, or_cases, cases_lt, leb-true, eqb-true, eq-eqb, ne_eqb}
-use Rattle.calendar.specs.declared.day.Day.{Day}
+use Rattle.std.proofs.lemmas.Bool.{cases_lt, eq-eqb, ne_eqb}
 use Rattle.calendar.specs.declared.day.ListedDay.{ListedDay}
 use Rattle.calendar.specs.declared.day.Kind.TheVariants.{Closed}
-use Rattle.calendar.specs.Listed.{allowed, may_stand, rise_within, listed_day}
+use Rattle.calendar.specs.Listed.{rise_within, listed_day}
 use Rattle.calendar.specs.Lawful.{begins}
 use Rattle.calendar.specs.Search.{none, Stands}
 

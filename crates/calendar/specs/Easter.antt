@@ -1,5 +1,5 @@
 -- Easter Sunday by Gauss's rule.
-use Rattle.std.specs.Prelude.{◌≡◌, ℕ, ◌+◌, ◌*◌, ◌%◌, ◌≤◌, Bool, true, false, cond, ◌&&◌, ◌==◌, nat_lt}
+use Rattle.std.specs.Prelude.{◌≡◌, ℕ, ◌+◌, ◌*◌, ◌%◌, ◌≤◌, cond, ◌&&◌, ◌==◌, nat_lt}
 use Rattle.civil.specs.Dates.{day_number}
 use Rattle.civil.specs.Weekdays.{weekday_of}
 use Rattle.civil.specs.declared.weekday.Weekday.TheVariants.{Sunday}

@@ -1,5 +1,5 @@
 -- Worked examples of the calendar by rule.
-use Rattle.std.specs.Prelude.{◌≡◌, ℕ, ◌+◌, ◌*◌, Some, Option}
+use Rattle.std.specs.Prelude.{◌≡◌, ◌+◌, ◌*◌, Some}
 use Rattle.civil.specs.Dates.{day_number}
 use Rattle.civil.specs.declared.month.Month.TheVariants.{March, April, December}
 use Rattle.calendar.specs.Easter.{easter_sunday}

@@ -4,7 +4,7 @@ use Rattle.std.proofs.Common.{inl, inr, arith, lit<}
 use Rattle.std.proofs.lemmas.Bool.{and_parts, or_cases, leb-true, eqb-true}
 use Rattle.calendar.specs.declared.day.Day.{Day}
 use Rattle.calendar.specs.declared.day.ListedDay.{ListedDay}
-use Rattle.calendar.specs.Meaning.{Meaning, Lawful, trades}
+use Rattle.calendar.specs.Meaning.{Lawful, trades}
 use Rattle.calendar.specs.Rule.{by_rule}
 use Rattle.calendar.specs.Listed.{allowed, may_stand, rise_within, listed_day, by_list}
 

@@ -1,5 +1,5 @@
 -- The calendar by rule, from 1 January 2000 to 31 December 2199.
-use Rattle.std.specs.Prelude.{ℕ, ◌+◌, Bool, true, false, cond, ◌&&◌, ◌||◌, ◌==◌, nat_le, nat_lt}
+use Rattle.std.specs.Prelude.{ℕ, ◌+◌, Bool, cond, ◌&&◌, ◌||◌, ◌==◌, nat_le, nat_lt}
 use Rattle.civil.specs.Dates.{place, date_of}
 use Rattle.civil.specs.Weekdays.{weekday_of, is_weekend, last_sunday}
 use Rattle.civil.specs.declared.date.Date.{Date}

@@ -1,5 +1,5 @@
 -- The neighbours and the hours of a trading day.
-use Rattle.std.specs.Prelude.{◌≡◌, ℕ, zero, suc, ◌+◌, ◌-◌, ◌*◌, ◌<◌, ◌≤◌, Bool, true, false, cond, ◌&&◌, List, [], ◌∷◌, Some, None, Option}
+use Rattle.std.specs.Prelude.{◌≡◌, ℕ, zero, suc, ◌+◌, ◌-◌, ◌*◌, ◌<◌, ◌≤◌, true, false, cond, List, [], ◌∷◌, Some, None, Option}
 use Rattle.calendar.specs.declared.day.Kind.{Kind}
 use Rattle.calendar.specs.declared.day.Kind.TheVariants.{Closed, Half, Full}
 use Rattle.calendar.specs.declared.neighbour.Way.{Way}

@@ -1,11 +1,11 @@
 -- The date of a day that is counted from the first of its month.
-use Rattle.std.proofs.Common.{◌≡◌, ℕ, zero, suc, ◌+◌, ◌-◌, ◌<◌, ◌≤◌, Bool, true, false, cond, eqb, ltb, sym, refl, ap, ◌∙◌, subst, add-zero, add_assoc, add-suc, arith}
+use Rattle.std.proofs.Common.{◌≡◌, ℕ, zero, suc, ◌+◌, ◌-◌, ◌<◌, ◌≤◌, Bool, true, false, cond, ltb, sym, refl, ap, ◌∙◌, add-zero, add_assoc, add-suc, arith}
 use Rattle.std.proofs.lemmas.Bool.Decides.{nat_tests}
 use Rattle.std.proofs.lemmas.Bool.{lt-ltb, le-ltb}
 use Rattle.civil.specs.declared.date.Date.{Date}
 use Rattle.civil.specs.declared.month.Month.{Month}
 use Rattle.civil.specs.declared.month.Month.TheVariants.{January, February, March, April, May, June, July, August, September, October, November, December}
-use Rattle.civil.specs.Dates.{leap, year_length, month_length, days_before, days_of_years, new_year, day_number, first_of, next_month, tomorrow, date_of}
+use Rattle.civil.specs.Dates.{year_length, month_length, days_before, days_of_years, new_year, day_number, first_of, next_month, tomorrow, date_of}
 
 abbrev dated : ℕ → Month → ℕ → Date
 dated y m d = record { year = y; month = m; day = d }

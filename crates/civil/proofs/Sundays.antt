@@ -1,5 +1,5 @@
 -- The latest Sunday on or before a day, by the remainder of the day by 7.
-use Rattle.std.proofs.Common.{◌≡◌, ℕ, zero, suc, ◌+◌, ◌-◌, ◌%◌, ◌<◌, ◌≤◌, Bool, true, false, cond, eqb, get_or, sym, refl, ap, ◌∙◌, subst, arith}
+use Rattle.std.proofs.Common.{◌≡◌, ℕ, zero, suc, ◌+◌, ◌-◌, ◌%◌, ◌<◌, ◌≤◌, Bool, true, false, cond, eqb, get_or, refl, ap, ◌∙◌, arith}
 use Rattle.std.proofs.lemmas.Bool.{eq-eqb, ne_eqb}
 use Rattle.civil.specs.declared.weekday.Weekday.TheVariants.{Thursday}
 use Rattle.civil.specs.Weekdays.{week_from_day_zero, weekday_of, is_sunday, sunday_until}

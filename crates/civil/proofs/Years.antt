@@ -1,7 +1,7 @@
 -- The leap years up to a year, the day on which a year begins, and the year in which a day lies.
-use Rattle.std.proofs.Common.{◌≡◌, ℕ, zero, suc, ◌+◌, ◌-◌, ◌*◌, ◌/◌, ◌%◌, ◌^◌, ◌<◌, ◌≤◌, Bool, true, false, cond, eqb, ltb, sym, refl, ap, ◌∙◌, subst, arith}
+use Rattle.std.proofs.Common.{◌≡◌, ℕ, zero, suc, ◌+◌, ◌-◌, ◌*◌, ◌/◌, ◌^◌, ◌<◌, ◌≤◌, sym, refl, subst, arith}
 use Rattle.std.proofs.lemmas.Bool.Decides.{nat_tests}
-use Rattle.civil.specs.Dates.{leap, year_length, days_of_years, new_year}
+use Rattle.civil.specs.Dates.{year_length, days_of_years, new_year}
 use Rattle.civil.specs.Years.{YearOf}
 
 -- the leap years before the year 1970 + n, counted from the year 1

@@ -1,5 +1,5 @@
 -- Civil dates by the Gregorian rule: the lengths of months and years, counted from day 0, 1 January 1970.
-use Rattle.std.specs.Prelude.{ℕ, zero, suc, ◌+◌, ◌-◌, ◌%◌, Bool, true, false, cond, not, ◌&&◌, ◌||◌, List, [], ◌∷◌, take, sum, ◌==◌, nat_lt, slice_index}
+use Rattle.std.specs.Prelude.{ℕ, zero, suc, ◌+◌, ◌-◌, ◌%◌, Bool, true, false, cond, List, [], ◌∷◌, take, sum, ◌==◌, nat_lt, slice_index}
 use Rattle.civil.specs.declared.date.Date.{Date}
 use Rattle.civil.specs.declared.month.Month.{Month}
 use Rattle.civil.specs.declared.month.Month.TheVariants.{January, February, March, April, May, June, July, August, September, October, November, December}

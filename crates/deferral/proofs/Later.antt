@@ -1,5 +1,5 @@
 -- The larger trade is never earlier.
-use Rattle.std.proofs.Common.{◌≡◌, ℕ, ◌+◌, ◌-◌, ◌^◌, ◌<◌, ◌≤◌, min, max, Bool, true, false, cond, not, ◌&&◌, eqb, leb, List, [], ◌∷◌, ◌++◌, is_some, Some, None, Ok, Err, Option, Result, unwrap_or, sym, refl, ap, ◌∙◌, subst, arith}
+use Rattle.std.proofs.Common.{◌≡◌, ℕ, ◌-◌, ◌^◌, ◌≤◌, min, max, Bool, true, false, cond, eqb, leb, List, [], ◌∷◌, ◌++◌, is_some, Some, None, Ok, Err, Option, Result, unwrap_or, sym, refl, ap, ◌∙◌, subst, arith}
 use Rattle.std.proofs.lemmas.Bool.{eqb-true, not-false}
 use Rattle.refusal.specs.declared.Refusal.{Refusal}
 use Rattle.refusal.specs.declared.Refusal.TheVariants.{NoTradingDay}
@@ -13,9 +13,9 @@ use Rattle.deferral.specs.declared.tier.Tier.{Tier}
 use Rattle.deferral.specs.declared.trade.Publication.{Publication}
 use Rattle.deferral.specs.declared.trade.Trade.{Trade}
 use Rattle.deferral.specs.Deadlines.{day_of, opened, opened_with, with_neighbours, deadlines_for}
-use Rattle.deferral.specs.Judged.{turnover, asks, trade_tier, capped, published, closed_ground, size_ground, turnover_ground, execution_ground, trade_grounds, unless, judged_in, if_opened, judged, AlikeButSize, LargerNeverEarlier}
-use Rattle.deferral.specs.Publication.{publication, tier_if, tier_moment, Timely}
-use Rattle.deferral.specs.Tiers.{tier_number, Alike, Rises}
+use Rattle.deferral.specs.Judged.{turnover, asks, trade_tier, published, closed_ground, size_ground, turnover_ground, execution_ground, trade_grounds, unless, judged_in, if_opened, AlikeButSize, LargerNeverEarlier}
+use Rattle.deferral.specs.Publication.{tier_if, tier_moment, Timely}
+use Rattle.deferral.specs.Tiers.{tier_number, Rises}
 use Rattle.deferral.proofs.Opening.{next_found, previous_found}
 use Rattle.deferral.proofs.Timely.{timely, moments_rise}
 

@@ -1,10 +1,10 @@
 -- What opening a day finds.
-use Rattle.std.proofs.Common.{◌≡◌, ℕ, zero, suc, ◌+◌, ◌^◌, ◌<◌, ◌≤◌, Bool, true, false, cond, ◌&&◌, leb, List, [], ◌∷◌, Some, None, Ok, Err, Option, Result, sym, refl, ap, ◌∙◌, subst, arith}
+use Rattle.std.proofs.Common.{◌≡◌, ℕ, ◌^◌, ◌≤◌, Bool, true, false, cond, ◌&&◌, leb, Some, None, Err, Option, Result, sym, refl, ap, ◌∙◌, subst, arith}
 use Rattle.std.proofs.lemmas.Bool.{lt-leb}
 use Rattle.refusal.specs.declared.Refusal.{Refusal}
 use Rattle.refusal.specs.declared.Refusal.TheVariants.{NoTradingDay, NoNeighbour}
 use Rattle.calendar.specs.declared.hours.Hours.{Hours}
-use Rattle.calendar.specs.Meaning.{Meaning, Lawful, known, trades, trading}
+use Rattle.calendar.specs.Meaning.{Meaning, Lawful, trades, trading}
 use Rattle.calendar.specs.Trading.{next_trading_day, previous_trading_day, hours_of, NextWithin, PreviousWithin, Answers}
 use Rattle.calendar.proofs.Nearest.{next_nearest, previous_nearest}
 use Rattle.deferral.specs.declared.opened.Opened.{Opened}

@@ -1,14 +1,14 @@
 -- Every calendar gives what the order of the tiers' moments needs.
-use Rattle.std.proofs.Common.{◌≡◌, ℕ, ◌+◌, ◌*◌, ◌/◌, ◌<◌, ◌≤◌, Bool, true, false, cond, ◌&&◌, ltb, leb, ◌⊎◌, refl, inl, inr, arith}
+use Rattle.std.proofs.Common.{◌≡◌, ℕ, ◌<◌, ◌≤◌, true, leb, inl, inr, arith}
 use Rattle.std.proofs.lemmas.Bool.{and_parts, leb-true}
 use Rattle.std.proofs.lemmas.Bool.Decides.{nat_tests}
 use Rattle.calendar.specs.declared.day.Kind.{Kind}
 use Rattle.calendar.specs.declared.day.Kind.TheVariants.{Closed, Half, Full}
 use Rattle.calendar.specs.Meaning.{Meaning, Lawful, known, trades, trading}
-use Rattle.calendar.specs.Trading.{closing_time, close, noon_point}
+use Rattle.calendar.specs.Trading.{closing_time}
 use Rattle.deferral.specs.declared.deadlines.Deadlines.{Deadlines}
 use Rattle.deferral.specs.declared.tier.Tier.{Tier}
-use Rattle.deferral.specs.declared.tier.Tier.TheVariants.{Zero, One, Two, Three, Four}
+use Rattle.deferral.specs.declared.tier.Tier.TheVariants.{Two, Three, Four}
 use Rattle.deferral.specs.Deadlines.{day_of, deadlines}
 use Rattle.deferral.specs.Publication.{tier_moment, Timely}
 use Rattle.deferral.specs.Tiers.{tier_number}

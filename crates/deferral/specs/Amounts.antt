@@ -1,7 +1,7 @@
 -- Amounts, and the tiers that they open.
-use Rattle.std.specs.Prelude.{ℕ, ◌*◌, Bool, true, false, cond, List, [], ◌∷◌, nat_le}
+use Rattle.std.specs.Prelude.{ℕ, ◌*◌, cond, List, [], ◌∷◌, nat_le}
 use Rattle.deferral.specs.declared.tier.Tier.{Tier}
-use Rattle.deferral.specs.declared.tier.Tier.TheVariants.{Zero, One, Two, Three, Four}
+use Rattle.deferral.specs.declared.tier.Tier.TheVariants.{Zero}
 use Rattle.deferral.specs.Tiers.{tier_number}
 
 -- an amount in EUR, and the tier that a turnover at or above it reaches

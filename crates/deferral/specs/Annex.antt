@@ -1,5 +1,5 @@
 -- The tables of Annex II of Regulation (EU) 2017/587.
-use Rattle.std.specs.Prelude.{ℕ, ◌*◌, Bool, true, false, cond, List, [], ◌∷◌, nat_le, nat_lt}
+use Rattle.std.specs.Prelude.{ℕ, ◌*◌, Bool, true, cond, List, [], ◌∷◌, nat_le, nat_lt}
 use Rattle.deferral.specs.declared.question.Class.{Class}
 use Rattle.deferral.specs.declared.question.Class.TheVariants.{Equity, Etf}
 use Rattle.deferral.specs.declared.question.Question.{Question}

@@ -1,5 +1,5 @@
 -- Worked examples of the schedules and of publication.
-use Rattle.std.specs.Prelude.{◌≡◌, ℕ, ◌+◌, ◌-◌, ◌*◌, ◌<◌, ◌≤◌, cond, nat_lt}
+use Rattle.std.specs.Prelude.{◌≡◌, ℕ, ◌+◌, ◌-◌, ◌*◌, ◌<◌, cond, nat_lt}
 use Rattle.civil.specs.Dates.{day_number}
 use Rattle.civil.specs.declared.month.Month.TheVariants.{May}
 use Rattle.calendar.specs.Rule.{by_rule}

@@ -1,5 +1,5 @@
 -- Flat schedules: four amounts in EUR for tiers 1 to 4.
-use Rattle.std.specs.Prelude.{ℕ, ◌≤◌, Bool, true, false, cond, ◌&&◌, List, [], ◌∷◌, Some, None, Option, nat_le}
+use Rattle.std.specs.Prelude.{ℕ, Bool, cond, ◌&&◌, List, [], ◌∷◌, Some, None, Option, nat_le}
 use Rattle.refusal.specs.declared.Refusal.{Refusal}
 use Rattle.refusal.specs.declared.Refusal.TheVariants.{AmountOutOfRange, AmountsFall}
 use Rattle.deferral.specs.declared.tier.Tier.TheVariants.{One, Two, Three, Four}

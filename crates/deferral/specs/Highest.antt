@@ -1,10 +1,10 @@
 -- The highest tier reached never falls as turnover grows.
-use Rattle.std.specs.Prelude.{◌≡◌, ℕ, ◌≤◌, Bool, true, false, cond, leb, List, [], ◌∷◌, refl}
+use Rattle.std.specs.Prelude.{ℕ, ◌≤◌, List, [], ◌∷◌}
 use Rattle.std.proofs.Common.{arith}
 use Rattle.std.proofs.lemmas.Bool.Decides.{nat_tests}
 use Rattle.deferral.specs.declared.tier.Tier.{Tier}
 use Rattle.deferral.specs.Tiers.{tier_number}
-use Rattle.deferral.specs.Amounts.{Step, units, reached, higher, highest}
+use Rattle.deferral.specs.Amounts.{Step, reached, higher, highest}
 
 reached_rises : (s : Step) (t u : ℕ) → t ≤ u → tier_number (reached t s) ≤ tier_number (reached u s)
 reached_rises s t u h = grind (arith, nat_tests)

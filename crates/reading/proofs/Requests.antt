@@ -1,5 +1,5 @@
 -- A request by how many words it has.
-use Rattle.std.proofs.Common.{◌≡◌, ℕ, ◌≤◌, List, [], ◌∷◌, map, length, get_or, Err, Result, sym, refl, ap, ◌∙◌, arith}
+use Rattle.std.proofs.Common.{◌≡◌, ℕ, ◌≤◌, List, [], ◌∷◌, map, length, get_or, Err, Result, refl, ap, ◌∙◌, arith}
 use Rattle.reading.specs.declared.request.Fault.{Fault}
 use Rattle.reading.specs.declared.request.Fault.TheVariants.{NoYear, TooManyWords}
 use Rattle.reading.specs.declared.request.Request.{Request}

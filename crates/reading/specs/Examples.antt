@@ -1,7 +1,7 @@
 -- Worked examples of how numbers, lines and requests are read.
 use Rattle.std.specs.Prelude.{◌≡◌, true, [], ◌∷◌, Ok, Err, codes}
 use Rattle.deferral.specs.declared.question.Class.TheVariants.{Equity}
-use Rattle.reading.specs.declared.flaw.Field.TheVariants.{Daily, Quantity, Execution, Mark}
+use Rattle.reading.specs.declared.flaw.Field.TheVariants.{Daily, Execution, Mark}
 use Rattle.reading.specs.declared.flaw.Flaw.TheVariants as flaw
 use Rattle.reading.specs.declared.number.NumberFlaw.TheVariants as number
 use Rattle.reading.specs.declared.request.Fault.TheVariants as fault

@@ -3,7 +3,6 @@ use Rattle.std.specs.Prelude.{ℕ, Bool, cond, not, ◌||◌, List, [], ◌∷�
 use Rattle.std.specs.Str.{bytes_eq}
 use Rattle.deferral.specs.declared.question.Class.{Class}
 use Rattle.deferral.specs.declared.question.Class.TheVariants.{Equity, Etf}
-use Rattle.deferral.specs.declared.trade.Trade.{Trade}
 use Rattle.reading.specs.declared.flaw.Field.{Field}
 use Rattle.reading.specs.declared.flaw.Field.TheVariants as field
 use Rattle.reading.specs.declared.flaw.Flaw.{Flaw}

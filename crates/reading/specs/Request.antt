@@ -1,5 +1,5 @@
 -- The words after the name of a program that prints trading years: `YEAR`, `YEAR --days` or `FIRST LAST --days`.
-use Rattle.std.specs.Prelude.{ℕ, Bool, cond, not, ◌&&◌, List, [], ◌∷◌, Some, None, Ok, Err, codes, Option, Result, nat_le, nat_lt}
+use Rattle.std.specs.Prelude.{ℕ, Bool, cond, not, ◌&&◌, List, [], ◌∷◌, Some, None, Err, codes, Option, Result, nat_le, nat_lt}
 use Rattle.std.specs.Str.{bytes_eq}
 use Rattle.reading.specs.declared.number.NumberFlaw.{NumberFlaw}
 use Rattle.reading.specs.declared.request.Fault.{Fault}

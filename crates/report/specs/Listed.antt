@@ -1,5 +1,5 @@
 -- The grounds against listing a security.
-use Rattle.std.specs.Prelude.{Bool, cond, not, ◌&&◌, List, [], ◌∷◌, nat_le}
+use Rattle.std.specs.Prelude.{Bool, not, ◌&&◌, List, [], ◌∷◌, nat_le}
 use Rattle.refusal.specs.declared.Refusal.TheVariants.{WrongIsin, ListingOutOfRange}
 use Rattle.refusal.specs.Grounds.{Ground}
 use Rattle.identifier.specs.Isin.{is_isin}

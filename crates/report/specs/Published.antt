@@ -1,5 +1,5 @@
 -- What publication and the sheets need of a report.
-use Rattle.std.specs.Prelude.{ℕ, ◌*◌, Bool, not, ◌&&◌, ◌||◌, ◌==◌}
+use Rattle.std.specs.Prelude.{Bool, not, ◌||◌, ◌==◌}
 use Rattle.deferral.specs.declared.trade.Trade.{Trade}
 use Rattle.report.specs.declared.report.Report.{Report}
 use Rattle.report.specs.declared.security.Security.{Security}

@@ -1,7 +1,6 @@
 -- What every call that is taken keeps holds after every lawful history.
 use Rattle.std.proofs.Common.{◌≡◌, ℕ, false, [], ◌∷◌, is_some, Some, None, Option, sym, refl, ◌∙◌, arith}
 use Rattle.std.proofs.lemmas.Bool.{cond_both}
-use Rattle.refusal.specs.declared.Refusal.{Refusal}
 use Rattle.rulebook.specs.declared.call.Call.{Call}
 use Rattle.rulebook.specs.Notebook.{Rules}
 use Rattle.rulebook.specs.Desk.{Desk, taken}

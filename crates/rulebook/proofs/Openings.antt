@@ -3,7 +3,6 @@ use Rattle.std.proofs.Common.{◌≡◌, ℕ, ◌<◌, Bool, true, false, cond, 
 use Rattle.std.specs.List.{AllByRecursion as All}
 use Rattle.std.proofs.lemmas.Bool.{ltb-false}
 use Rattle.refusal.specs.declared.Refusal.TheVariants.{NoTradingDay}
-use Rattle.refusal.specs.Grounds.{Ground, first_ground}
 use Rattle.calendar.specs.Meaning.{Meaning, trading}
 use Rattle.calendar.specs.Trading.{next_trading_day, previous_trading_day}
 use Rattle.deferral.specs.declared.opened.Opened.{Opened}

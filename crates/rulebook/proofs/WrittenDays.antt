@@ -4,7 +4,6 @@ use Rattle.std.proofs.lemmas.Bool.{eqb-true}
 use Rattle.civil.specs.Weekdays.{last_sunday}
 use Rattle.civil.specs.declared.month.Month.TheVariants.{May}
 use Rattle.calendar.proofs.Dated.{on_date}
-use Rattle.calendar.specs.declared.day.Kind.{Kind}
 use Rattle.calendar.specs.declared.day.Kind.TheVariants.{Full}
 use Rattle.calendar.specs.Easter.{easter_sunday}
 use Rattle.calendar.specs.Meaning.{Meaning}

@@ -1,5 +1,5 @@
 -- What each call answers.
-use Rattle.std.specs.Prelude.{ℕ, Bool, true, false, cond, List, [], ◌∷◌, length, Some, None, Option}
+use Rattle.std.specs.Prelude.{false, length, Some, None, Option}
 use Rattle.refusal.specs.declared.Refusal.{Refusal}
 use Rattle.report.specs.declared.report.Report.{Report}
 use Rattle.report.specs.declared.security.Security.{Security}
@@ -9,7 +9,6 @@ use Rattle.rulebook.specs.declared.call.Answer.{Answer}
 use Rattle.rulebook.specs.declared.call.Answer.TheVariants.{Refused, Done, Advanced, Taken, Carried, Counted}
 use Rattle.rulebook.specs.declared.call.Call.{Call}
 use Rattle.rulebook.specs.declared.call.Call.TheVariants.{List as Listing, Advance, Open, Enter, Amend, Cancel, CarryAway, Figures}
-use Rattle.rulebook.specs.declared.call.Receipt.{Receipt}
 use Rattle.rulebook.specs.declared.record.Record.{Record}
 use Rattle.rulebook.specs.Notebook.{Rules, Notebook, security_of}
 use Rattle.rulebook.specs.Lines.{due_now}

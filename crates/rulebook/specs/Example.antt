@@ -1,5 +1,5 @@
 -- The worked example: two trades of one equity on 8 May 2018, of which the market sees one at once.
-use Rattle.std.specs.Prelude.{◌≡◌, ℕ, ◌+◌, ◌*◌, true, false, List, [], ◌∷◌, ◌++◌, Some, None, codes}
+use Rattle.std.specs.Prelude.{◌≡◌, ℕ, true, false, [], ◌∷◌, ◌++◌, Some, None, codes}
 use Rattle.civil.specs.Dates.{day_number}
 use Rattle.civil.specs.declared.month.Month.TheVariants.{May}
 use Rattle.identifier.specs.declared.counterparty.Counterparty.TheVariants.{Lei}

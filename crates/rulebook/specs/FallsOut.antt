@@ -1,9 +1,9 @@
 -- A day that falls out has no waiting trade.
-use Rattle.std.specs.Prelude.{◌≡◌, Bool, true, false, [], None}
+use Rattle.std.specs.Prelude.{◌≡◌, false, [], None}
 use Rattle.std.specs.List.{AllByRecursion}
 use Rattle.calendar.specs.Meaning.{Lawful as Kept}
 use Rattle.rulebook.specs.declared.call.Call.TheVariants.{Open}
-use Rattle.rulebook.specs.Notebook.{Rules, Notebook, among, waits}
+use Rattle.rulebook.specs.Notebook.{Rules, among, waits}
 use Rattle.rulebook.specs.Lines.{due_now}
 use Rattle.rulebook.specs.Desk.{taken}
 use Rattle.rulebook.specs.Grounds.{ground}

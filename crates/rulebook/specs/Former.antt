@@ -1,5 +1,5 @@
 -- A withdrawn trade leaves its sheets as they were before it.
-use Rattle.std.specs.Prelude.{◌≡◌, ℕ, Bool, true, false, cond, not, ◌&&◌, ◌||◌, List, [], ◌∷◌, ◌++◌, Some, None, Option}
+use Rattle.std.specs.Prelude.{◌≡◌, ℕ, Bool, false, not, ◌&&◌, [], ◌∷◌, ◌++◌, Some, None, Option}
 use Rattle.calendar.specs.Meaning.{Lawful as Kept}
 use Rattle.identifier.specs.declared.isin.Isin.{Isin}
 use Rattle.report.specs.declared.figures.Sheet.TheVariants.{Full, Public}
@@ -13,7 +13,7 @@ use Rattle.rulebook.specs.Lines.{due_now}
 use Rattle.rulebook.specs.Taken.{new_record, noted}
 use Rattle.rulebook.specs.Sheets.{sheet_of}
 use Rattle.rulebook.specs.Desk.{Desk}
-use Rattle.rulebook.specs.Histories.{Entry, History, taking, step, Lawful, desk_after, notebook_after}
+use Rattle.rulebook.specs.Histories.{History, taking, step, Lawful, desk_after, notebook_after}
 
 -- the code that a call withdraws
 abbrev pub withdraws : Call → Option Code

@@ -1,8 +1,7 @@
 -- Codes and line numbers have no gaps.
-use Rattle.std.specs.Prelude.{◌≡◌, ℕ, Bool, true, false, List, [], ◌∷◌, map, length, filter, nat_eq}
+use Rattle.std.specs.Prelude.{◌≡◌, ℕ, List, map, length, filter, nat_eq}
 use Rattle.calendar.specs.Meaning.{Lawful as Kept}
 use Rattle.report.specs.declared.line.Line.{Line}
-use Rattle.rulebook.specs.declared.record.Record.{Record}
 use Rattle.rulebook.specs.Lists.{numbers}
 use Rattle.rulebook.specs.Notebook.{Rules, Notebook, of_day}
 use Rattle.rulebook.specs.Histories.{History, Lawful, notebook_after, tape}

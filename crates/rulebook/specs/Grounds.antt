@@ -1,5 +1,5 @@
 -- The grounds of each call, in their order.
-use Rattle.std.specs.Prelude.{ℕ, ◌+◌, Bool, true, false, cond, not, ◌&&◌, ◌||◌, ltb, List, [], ◌∷◌, ◌++◌, length, is_some, Some, None, Option, ◌==◌, nat_le, nat_lt}
+use Rattle.std.specs.Prelude.{ℕ, ◌+◌, Bool, not, ◌&&◌, ltb, List, [], ◌∷◌, ◌++◌, length, is_some, Option, ◌==◌, nat_le, nat_lt}
 use Rattle.refusal.specs.declared.Refusal.{Refusal}
 use Rattle.refusal.specs.declared.Refusal.TheVariants.{BeforeTheClock, AfterTheLastDay, TapeTooShort, NoPlaceForSecurity, NoTradingDay, NoNeighbour, OpenedTooEarly, MarketClosed, NotListed, NoFreeRecord, TapeFull, NoSuchTrade, ExecutionDiffers, BufferTooShort, DayNotHeld}
 use Rattle.refusal.specs.Grounds.{Ground, first_ground}
@@ -7,10 +7,8 @@ use Rattle.identifier.specs.declared.isin.Isin.{Isin}
 use Rattle.identifier.specs.declared.member.Member.{Member}
 use Rattle.calendar.specs.Meaning.{Meaning, trading}
 use Rattle.calendar.specs.Trading.{next_trading_day, previous_trading_day}
-use Rattle.deferral.specs.declared.opened.Opened.{Opened}
 use Rattle.deferral.specs.Deadlines.{day_of}
 use Rattle.deferral.specs.Judged.{execution_ground}
-use Rattle.report.specs.declared.line.Line.{Line}
 use Rattle.report.specs.declared.report.Code.{Code}
 use Rattle.report.specs.declared.report.Report.{Report}
 use Rattle.report.specs.declared.security.Security.{Security}

@@ -1,5 +1,5 @@
 -- The larger trade is never earlier.
-use Rattle.std.specs.Prelude.{◌≡◌, ℕ, ◌*◌, ◌≤◌}
+use Rattle.std.specs.Prelude.{◌≡◌, ◌*◌, ◌≤◌}
 use Rattle.calendar.specs.Meaning.{Lawful as Kept}
 use Rattle.deferral.specs.Tiers.{Rises}
 use Rattle.report.specs.declared.report.Code.{Code}

@@ -1,5 +1,5 @@
 -- The figures of a security's day, counted afresh from the notebook.
-use Rattle.std.specs.Prelude.{ℕ, ◌*◌, Bool, true, false, cond, not, ◌&&◌, ◌||◌, List, [], ◌∷◌, length, Some, None, sum_by, filter, Option, ◌==◌, nat_lt}
+use Rattle.std.specs.Prelude.{ℕ, ◌*◌, Bool, ◌&&◌, ◌||◌, List, length, Some, None, sum_by, filter, Option, ◌==◌, nat_lt}
 use Rattle.identifier.specs.declared.isin.Isin.{Isin}
 use Rattle.report.specs.declared.figures.Figures.{Figures}
 use Rattle.report.specs.declared.figures.Sheet.{Sheet}

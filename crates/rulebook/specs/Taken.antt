@@ -1,5 +1,5 @@
 -- What a call that is taken does to the notebook, and the lines that it writes.
-use Rattle.std.specs.Prelude.{ℕ, ◌+◌, Bool, true, false, cond, not, ◌&&◌, ◌||◌, List, [], ◌∷◌, ◌++◌, map, length, take, Some, None, Ok, Err, filter, Option, Result}
+use Rattle.std.specs.Prelude.{ℕ, ◌+◌, Bool, true, false, cond, List, [], ◌∷◌, ◌++◌, map, length, take, Some, None, Ok, Err, filter, Option, Result}
 use Rattle.refusal.specs.declared.Refusal.{Refusal}
 use Rattle.deferral.specs.declared.deadlines.Deadlines.{Deadlines}
 use Rattle.deferral.specs.declared.opened.Opened.{Opened}

@@ -1,5 +1,5 @@
 -- No trace of a deferred trade.
-use Rattle.std.specs.Prelude.{◌≡◌, ℕ, Bool, true, false, cond, ◌&&◌, ◌||◌, List, [], ◌∷◌}
+use Rattle.std.specs.Prelude.{◌≡◌, ℕ, Bool, true, false, ◌&&◌, [], ◌∷◌}
 use Rattle.calendar.specs.Meaning.{Lawful as Kept}
 use Rattle.identifier.specs.declared.isin.Isin.{Isin}
 use Rattle.report.specs.declared.figures.Sheet.TheVariants.{Public}
@@ -9,7 +9,6 @@ use Rattle.report.specs.declared.state.State.{State}
 use Rattle.report.specs.declared.state.State.TheVariants.{Waiting, Published, Dropped, Recalled}
 use Rattle.rulebook.specs.declared.call.Call.{Call}
 use Rattle.rulebook.specs.declared.call.Call.TheVariants.{Enter, Amend, Figures}
-use Rattle.rulebook.specs.declared.record.Record.{Record}
 use Rattle.rulebook.specs.Lists.{some_of}
 use Rattle.rulebook.specs.Notebook.{Rules, Notebook, same_code, next_code}
 use Rattle.rulebook.specs.Sheets.{sheet_of}

@@ -1,4 +1,4 @@
-use Rattle.std.proofs.Common.{◌≡◌, ℕ, ◌+◌, ◌-◌, ap, ◌∙◌, arith}
+use Rattle.std.proofs.Common.{◌≡◌, ℕ, ◌+◌, ap, ◌∙◌, arith}
 use Rattle.civil.specs.Dates.{date_of}
 use Rattle.civil.proofs.Counting.{date_of_number}
 use Rattle.civil.proofs.date.day_number.Goals as goal

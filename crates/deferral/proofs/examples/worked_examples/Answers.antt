@@ -6,7 +6,7 @@ use Rattle.calendar.proofs.Dated.{on_date}
 use Rattle.calendar.specs.Easter.{easter_sunday}
 use Rattle.calendar.specs.Rule.{by_rule, kind_on, offset_on}
 use Rattle.calendar.specs.Trading.{clock, closing_time, close, noon_point}
-use Rattle.deferral.specs.Examples.{on_8_may, on_9_may, of_8_may}
+use Rattle.deferral.specs.Examples.{on_8_may, on_9_may}
 use Rattle.deferral.proofs.examples.worked_examples.Goals as goal
 
 close_on_8_may : close by_rule (day_number 2018 May 8) ≡ on_8_may 16 15 0

@@ -1,4 +1,4 @@
-use Rattle.std.proofs.Common.{◌≡◌, refl}
+use Rattle.std.proofs.Common.{refl}
 use Rattle.reading.specs.Line.{class_flaw, class_of, field_flaw, mark_flaw, defers, line_read}
 use Rattle.reading.specs.Number.{decimal_value}
 use Rattle.reading.specs.Words.{words_of, words_left}

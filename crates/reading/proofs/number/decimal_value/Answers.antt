@@ -1,4 +1,4 @@
-use Rattle.std.proofs.Common.{◌≡◌, ◌+◌, ◌*◌, ◌^◌, ◌<◌, ◌≤◌, get_or, sym, ap, ◌∙◌, arith}
+use Rattle.std.proofs.Common.{◌+◌, ◌*◌, ◌^◌, ◌≤◌, get_or, sym, ap, ◌∙◌, arith}
 use Rattle.reading.specs.Number.{digit_of, fitting, decimal_value}
 use Rattle.reading.proofs.Values.{value_from, value_more, value_all, value_ge, fitting_small, fitting_large, small_from_fitting, large_from_fitting}
 use Rattle.reading.proofs.number.decimal_value.Goals as goal
