@@ -57,8 +57,8 @@ codes_are h = ap (map (code_in h)) (numbers_are 1 h.taken)
 pub length_codes : (h : HeldDay) → length (codes_of h) ≡ h.taken
 length_codes h = ap length (codes_are h) ∙ length-map-range_with_len (code_in h) 1 h.taken
 
-getD_codes : (h : HeldDay) (i serial : ℕ) (d : Code) → i < h.taken → 1 + i ≡ serial → get_or (codes_of h) i d ≡ code_in h serial
-getD_codes h i serial d l is = ap (λ cs. get_or cs i d) (codes_are h) ∙ get_or-map-range_with_len (code_in h) 1 h.taken i serial d l is
+get_or_codes : (h : HeldDay) (i serial : ℕ) (d : Code) → i < h.taken → 1 + i ≡ serial → get_or (codes_of h) i d ≡ code_in h serial
+get_or_codes h i serial d l is = ap (λ cs. get_or cs i d) (codes_are h) ∙ get_or-map-range_with_len (code_in h) 1 h.taken i serial d l is
 
 pub codes_more : (h : HeldDay) → codes_of (with_next h) ≡ codes_of h ++ code_in h (h.taken + 1) ∷ []
 codes_more h =
@@ -141,7 +141,7 @@ module _ (h : HeldDay) (front : List Code) (code : Code) (day : h.opened.day ≡
     has_serial : 1 ≤ code.serial → code.serial ≤ h.taken → (d : Code) → get_or (front ++ codes_of h) (length front + (code.serial - 1)) d ≡ code
     has_serial low high d =
         get_or-append-add front (codes_of h) (code.serial - 1) d
-        ∙ getD_codes h (code.serial - 1) code.serial d (omega arith) (omega arith)
+        ∙ get_or_codes h (code.serial - 1) code.serial d (omega arith) (omega arith)
         ∙ code_from_parts (code_in h code.serial) code day refl
 
     indexed_in : All (λ c. same_code c code ≡ false) front → h.first ≡ length front → length (front ++ codes_of h) < 2 ^ 64 → Indexed (front ++ codes_of h) code (place_in code.serial h)

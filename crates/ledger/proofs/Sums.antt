@@ -18,8 +18,8 @@ same_totals a b p q r =
     ∙ ap (λ n. record { number = b.number; volume = b.volume; turnover = n }) r
 
 -- one more in the middle of some
-sumBy_middle : (f : Record → ℕ) (xs ys : List Record) (t : Record) → sum_by f (xs ++ t ∷ ys) ≡ sum_by f (xs ++ ys) + f t
-sumBy_middle f xs ys t =
+sum_by_middle : (f : Record → ℕ) (xs ys : List Record) (t : Record) → sum_by f (xs ++ t ∷ ys) ≡ sum_by f (xs ++ ys) + f t
+sum_by_middle f xs ys t =
     let a = sum_by-append f xs (t ∷ ys) in
     let b = sum_by-append f xs ys in
     let e = sum_by-cons f t ys in
@@ -49,15 +49,15 @@ totals_with xs ys t few =
     let v = few_volume (xs ++ t ∷ ys) few in
     let w = few_turnover (xs ++ t ∷ ys) few in
     let n = length_middle xs ys t in
-    let v' = sumBy_middle (λ t. t.report.quantity) xs ys t in
-    let w' = sumBy_middle (λ t. turnover_of t.report) xs ys t in
+    let v' = sum_by_middle (λ t. t.report.quantity) xs ys t in
+    let w' = sum_by_middle (λ t. turnover_of t.report) xs ys t in
     same_totals (with_report (totals_of (xs ++ ys)) t.report) (totals_of (xs ++ t ∷ ys)) (omega arith) (omega arith) (omega arith)
 
 pub totals_without : (xs ys : List Record) (t : Record) → without_report (totals_of (xs ++ t ∷ ys)) t.report ≡ totals_of (xs ++ ys)
 totals_without xs ys t =
     let n = length_middle xs ys t in
-    let v = sumBy_middle (λ t. t.report.quantity) xs ys t in
-    let w = sumBy_middle (λ t. turnover_of t.report) xs ys t in
+    let v = sum_by_middle (λ t. t.report.quantity) xs ys t in
+    let w = sum_by_middle (λ t. turnover_of t.report) xs ys t in
     same_totals (without_report (totals_of (xs ++ t ∷ ys)) t.report) (totals_of (xs ++ ys)) (omega arith) (omega arith) (omega arith)
 
 -- of two trades with one report either may stand there
@@ -65,12 +65,12 @@ pub totals_same : (xs ys : List Record) (t u : Record) → t.report ≡ u.report
 totals_same xs ys t u e =
     same_totals (totals_of (xs ++ t ∷ ys)) (totals_of (xs ++ u ∷ ys))
     (length_middle xs ys t ∙ sym (length_middle xs ys u))
-    (sumBy_middle (λ t. t.report.quantity) xs ys t
+    (sum_by_middle (λ t. t.report.quantity) xs ys t
     ∙ ap (λ r. sum_by (λ t. t.report.quantity) (xs ++ ys) + r.quantity) e
-    ∙ sym (sumBy_middle (λ t. t.report.quantity) xs ys u))
-    (sumBy_middle (λ t. turnover_of t.report) xs ys t
+    ∙ sym (sum_by_middle (λ t. t.report.quantity) xs ys u))
+    (sum_by_middle (λ t. turnover_of t.report) xs ys t
     ∙ ap (λ r. sum_by (λ t. turnover_of t.report) (xs ++ ys) + turnover_of r) e
-    ∙ sym (sumBy_middle (λ t. turnover_of t.report) xs ys u))
+    ∙ sym (sum_by_middle (λ t. turnover_of t.report) xs ys u))
 
 -- what a test keeps of trades around one
 pub kept_with : (p : Record → Bool) (xs ys : List Record) (t : Record) → p t ≡ true → filter p (xs ++ t ∷ ys) ≡ filter p xs ++ t ∷ filter p ys

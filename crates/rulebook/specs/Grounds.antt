@@ -1,5 +1,5 @@
 -- The grounds of each call, in their order.
-use Rattle.std.specs.Prelude.{ℕ, ◌+◌, Bool, not, ◌&&◌, ltb, List, [], ◌∷◌, ◌++◌, length, is_some, Option, ◌==◌, nat_le, nat_lt}
+use Rattle.std.specs.Prelude.{ℕ, ◌+◌, Bool, not, ◌&&◌, List, [], ◌∷◌, ◌++◌, length, is_some, Option, ◌==◌, nat_le, nat_lt}
 use Rattle.refusal.specs.declared.Refusal.{Refusal}
 use Rattle.refusal.specs.declared.Refusal.TheVariants.{BeforeTheClock, AfterTheLastDay, TapeTooShort, NoPlaceForSecurity, NoTradingDay, NoNeighbour, OpenedTooEarly, MarketClosed, NotListed, NoFreeRecord, TapeFull, NoSuchTrade, ExecutionDiffers, BufferTooShort, DayNotHeld}
 use Rattle.refusal.specs.Grounds.{Ground, first_ground}
@@ -63,7 +63,7 @@ advance_grounds rules d moment =
 
 -- the next trading day noted at the last opening is the first that can be opened
 abbrev pub too_early : Notebook → ℕ → Bool
-too_early nb day = passes (λ o. ltb day o.next) (latest nb.days)
+too_early nb day = passes (λ o. nat_lt day o.next) (latest nb.days)
 
 abbrev pub open_grounds : Meaning → Notebook → ℕ → List Ground
 open_grounds m nb day =

@@ -13,6 +13,7 @@ use page::print_page;
 use request::{Fault, Request, read_request};
 use std::alloc::Global;
 use std::io::{BufWriter, Write};
+use std::process::ExitCode;
 use std::{env, io};
 
 const USAGE: &str =
@@ -41,11 +42,11 @@ fn answer(rt: &HostRuntime, asked: Request) -> io::Result<()> {
     out.flush()
 }
 
-fn main(rt: HostRuntime) -> Result<(), Fault> {
-    let words: Vec<String> = env::args(&rt)?.skip(1).collect(rt.alloc())?;
+fn run(rt: &HostRuntime) -> Result<(), Fault> {
+    let words: Vec<String> = env::args(rt)?.skip(1).collect(rt.alloc())?;
     match read_request(words.as_slice()) {
         Ok(asked) => {
-            answer(&rt, asked)?;
+            answer(rt, asked)?;
             Ok(())
         }
         Err(fault) => {
@@ -53,5 +54,12 @@ fn main(rt: HostRuntime) -> Result<(), Fault> {
             eprintln!(rt; "{USAGE}")?;
             Err(fault)
         }
+    }
+}
+
+fn main(rt: HostRuntime) -> ExitCode {
+    match run(&rt) {
+        Ok(()) => ExitCode::SUCCESS,
+        Err(_) => ExitCode::FAILURE,
     }
 }
