@@ -4,7 +4,8 @@ ghost use Rattle.std.specs.Option.{option_map};
 ghost use Rattle.almanac.specs.Lines.{day_line};
 
 use calendar::calendar::Calendar;
-use calendar::hours::hours_of;
+use calendar::day::Day;
+use calendar::hours::{Hours, hours_of};
 use civil::date::Date;
 use std::alloc::{AllocError, Global};
 
@@ -16,19 +17,20 @@ pub fn day_line<C: Calendar>(
 ) -> Result<Option<String>, AllocError>
     ensures { IfOk result (λ text. option_map string_bytes text ≡ day_line (C.meaning calendar.now) day) }
 {
-    let Some(known) = calendar.ask(day) else {
+    let Some(Day { kind, offset }) = calendar.ask(day) else {
         return Ok(None);
     };
     let date = Date::of(day);
-    let kind = known.kind;
-    let offset = known.offset;
-    match hours_of(calendar, day) {
+    let line = match hours_of(calendar, day) {
         Some(hours) => {
-            let opening = hours.opening;
-            let noon = hours.noon;
-            let close = hours.close;
-            Ok(Some(format!(in heap; "{date} {kind} {offset} {opening} {noon} {close}")?))
+            let Hours {
+                opening,
+                noon,
+                close,
+            } = hours;
+            format!(in heap; "{date} {kind} {offset} {opening} {noon} {close}")?
         }
-        None => Ok(Some(format!(in heap; "{date} {kind} {offset} - - -")?)),
-    }
+        None => format!(in heap; "{date} {kind} {offset} - - -")?,
+    };
+    Ok(Some(line))
 }

@@ -1,8 +1,8 @@
 -- A neighbour is the nearest trading day, all days up to it being known.
-use Rattle.std.proofs.Common.{◌≡◌, ℕ, zero, suc, ◌+◌, Bool, true, false, cond, ◌⊎◌, Some, None, Option, sym, refl, ap, ◌∙◌, inl, inr, arith}
+use Rattle.std.proofs.Common.{◌≡◌, ℕ, zero, suc, ◌+◌, Bool, true, false, cond, ◌⊎◌, Some, None, Option, sym, refl, ap, ◌∙◌, subst, inl, inr, arith}
 use Rattle.std.proofs.lemmas.Bool.{and_parts, both_ways, cases_order}
 use Rattle.calendar.specs.Meaning.{Meaning, known, trades, trading}
-use Rattle.calendar.specs.Trading.{nearest, days_after, days_until, NextWithin, PreviousWithin, Answers}
+use Rattle.calendar.specs.Trading.{nearest, days_after, days_until, next_trading_day, previous_trading_day, NextWithin, PreviousWithin, Answers}
 
 -- a trading day is known
 trading_known : (m : Meaning) (d : ℕ) → trading m d ≡ true → known m d ≡ true
@@ -74,3 +74,9 @@ previous_nearest m (suc n) (suc day) =
       | inr (inr more) ↦ absurd (omega arith)
     ])
     (known m day) (trading m day) (nearest m (days_until n day)) refl refl (λ d p. p.trades) (previous_nearest m n day)
+
+pub next_within : (m : Meaning) (day : ℕ) (r : Option ℕ) → r ≡ next_trading_day m day → Answers (NextWithin m 14 day) r
+next_within m day r is = subst (Answers (NextWithin m 14 day)) (sym is) (next_nearest m 14 day)
+
+pub previous_within : (m : Meaning) (day : ℕ) (r : Option ℕ) → r ≡ previous_trading_day m day → Answers (PreviousWithin m 14 day) r
+previous_within m day r is = subst (Answers (PreviousWithin m 14 day)) (sym is) (previous_nearest m 14 day)

@@ -4,7 +4,6 @@ pub mod Lawful
 pub mod Listed
 pub mod Meaning
 pub mod Rule
-pub mod Search
 pub mod Steps
 pub mod Text
 pub mod Trading

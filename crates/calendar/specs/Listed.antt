@@ -33,10 +33,18 @@ well_listed first last xs = span_fits first last && rise_within first last xs
 abbrev pub reading : ℕ → ℕ → List ListedDay → Result (Unit {0}) Refusal
 reading first last xs = cond (well_listed first last xs) (Ok tt) (Err WrongCalendar)
 
+-- what a listed day says of its day
+abbrev pub as_listed : ListedDay → Day
+as_listed x = record { kind = x.kind; offset = x.offset }
+
 -- a day that is not listed is closed
 abbrev pub listed_day : List ListedDay → ℕ → Day
 listed_day [] day = record { kind = Closed; offset = 0 }
-listed_day (x ∷ xs) day = cond (x.day == day) (record { kind = x.kind; offset = x.offset }) (listed_day xs day)
+listed_day (x ∷ xs) day = cond (x.day == day) (as_listed x) (listed_day xs day)
 
 abbrev pub by_list : ℕ → ℕ → List ListedDay → Meaning
 by_list first last xs = record { first = first; last = last; kind = λ day. (listed_day xs day).kind; offset = λ day. (listed_day xs day).offset }
+
+-- the calendar that can be made of a list, or why none can be
+abbrev pub listing : ℕ → ℕ → List ListedDay → Result Meaning Refusal
+listing first last xs = cond (well_listed first last xs) (Ok (by_list first last xs)) (Err WrongCalendar)

@@ -2,8 +2,6 @@
 use Rattle.std.specs.Prelude.{◌≡◌, ℕ, zero, suc, ◌+◌, ◌-◌, ◌*◌, ◌<◌, ◌≤◌, true, false, cond, List, [], ◌∷◌, Some, None, Option}
 use Rattle.calendar.specs.declared.day.Kind.{Kind}
 use Rattle.calendar.specs.declared.day.Kind.TheVariants.{Closed, Half, Full}
-use Rattle.calendar.specs.declared.neighbour.Way.{Way}
-use Rattle.calendar.specs.declared.neighbour.Way.TheVariants.{Onward, Back}
 use Rattle.calendar.specs.declared.hours.Hours.{Hours}
 use Rattle.calendar.specs.Meaning.{Meaning, known, trading}
 
@@ -22,10 +20,6 @@ abbrev pub days_until : ℕ → ℕ → List ℕ
 days_until zero day = []
 days_until (suc n) zero = []
 days_until (suc n) (suc day) = day ∷ days_until n day
-
-abbrev pub days_along : Way → ℕ → ℕ → List ℕ
-days_along Onward n day = days_after n day
-days_along Back n day = days_until n day
 
 -- a neighbour is looked for among fourteen days
 abbrev pub next_trading_day : Meaning → ℕ → Option ℕ

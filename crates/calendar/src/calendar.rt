@@ -8,9 +8,9 @@ use super::day::Day;
 pub trait Calendar {
     ghost meaning: { Self → Meaning };
 
-    ghost lawful: { (c : Self) → Lawful (meaning c) };
-
     /// What the calendar knows of the day; none outside its span.
     fn ask(&self, day: u32) -> Option<Day>
         ensures { result ≡ asked (meaning self.now) day };
+
+    ghost lawful: { (c : Self) → Lawful (meaning c) };
 }

@@ -1,5 +1,6 @@
 //! What a calendar knows of a day.
 ghost use Rattle.std.specs.Prelude.{◌≡◌, Some};
+ghost use Rattle.calendar.specs.Listed.{as_listed};
 ghost use Rattle.calendar.specs.Meaning.{trades};
 ghost use Rattle.calendar.specs.Text.{kind_text};
 
@@ -50,4 +51,15 @@ pub struct ListedDay {
     pub day: u32,
     pub kind: Kind,
     pub offset: u32,
+}
+
+impl From<ListedDay> for Day {
+    ghost from_gives = { λ listed day. day ≡ as_listed listed };
+
+    fn from(listed: ListedDay) -> Day {
+        Day {
+            kind: listed.kind,
+            offset: listed.offset,
+        }
+    }
 }

@@ -42,9 +42,10 @@ pub fn hours_of<C: Calendar>(calendar: &C, day: u32) -> Option<Hours>
         Kind::Half => CLOSE_HALF,
         Kind::Full => CLOSE_FULL,
     };
+    let moment = |time: u32| irish_moment(day, time, known.offset);
     Some(Hours {
-        opening: irish_moment(day, OPENING, known.offset),
-        noon: irish_moment(day, NOON_POINT, known.offset),
-        close: irish_moment(day, close, known.offset),
+        opening: moment(OPENING),
+        noon: moment(NOON_POINT),
+        close: moment(close),
     })
 }

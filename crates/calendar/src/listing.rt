@@ -1,7 +1,7 @@
 //! Reading a list, and answering from it.
 ghost use Rattle.std.specs.Prelude.{◌≡◌, true, false, [], is_ok};
-ghost use Rattle.calendar.specs.Listed.{may_stand, rise_within, reading, listed_day, by_list};
-ghost use Rattle.calendar.specs.Search.{Stands};
+ghost use Rattle.std.specs.Result.{result_map_both};
+ghost use Rattle.calendar.specs.Listed.{may_stand, rise_within, reading, listing, listed_day, by_list};
 ghost use Rattle.calendar.specs.Lawful.{list_lawful};
 
 use super::calendar::Calendar;
@@ -14,16 +14,16 @@ use refusal::Refusal;
 fn may_stand(first: u64, last: u32, listed: &ListedDay) -> bool
     ensures { result ≡ may_stand first last listed.now }
 {
-    if (listed.day as u64) < first || listed.day > last || !listed.kind.trades() {
-        return false;
-    }
-    listed.offset == 0 || listed.offset == SUMMER
+    (first..=last as u64).contains(&(listed.day as u64))
+        && listed.kind.trades()
+        && matches!(listed.offset, 0 | SUMMER)
 }
 
 /// Do the days rise strictly from the first to the last, each of them allowed?
 fn rise_within(first: u32, last: u32, days: &[ListedDay]) -> bool
     ensures { result ≡ rise_within first last days.now }
 {
+    // One pass, which `is_sorted_by` and `all` would make two; `from` is the least day that may still come.
     let mut from = first as u64;
     for listed in days {
         if !may_stand(from, last, listed) {
@@ -35,44 +35,16 @@ fn rise_within(first: u32, last: u32, days: &[ListedDay]) -> bool
 }
 
 impl<'a> ListedCalendar<'a> {
-    /// How many of the listed days are before `day`, found by halving.
-    fn place_of(&self, day: u32) -> usize
-        ensures { Stands self.now.days.now day result }
-    {
-        let mut low = 0;
-        let mut high = self.days.len();
-        while low < high {
-            let mid = low + (high - low) / 2;
-            if self.days[mid].day < day {
-                low = mid + 1;
-            } else {
-                high = mid;
-            }
-        }
-        low
-    }
-
     /// What the list says of the day.
     fn look_up(&self, day: u32) -> Day
         ensures { result ≡ listed_day self.now.days.now day }
     {
-        let at = self.place_of(day);
-        if at == self.days.len() {
-            return Day {
+        match self.days.binary_search_by_key(&day, |listed| listed.day) {
+            Ok(at) => Day::from(self.days[at]),
+            Err(_) => Day {
                 kind: Kind::Closed,
                 offset: 0,
-            };
-        }
-        let listed = self.days[at];
-        if listed.day != day {
-            return Day {
-                kind: Kind::Closed,
-                offset: 0,
-            };
-        }
-        Day {
-            kind: listed.kind,
-            offset: listed.offset,
+            },
         }
     }
 
@@ -87,16 +59,23 @@ impl<'a> ListedCalendar<'a> {
         }
     }
 
+    /// The calendar of a list of trading days from `first` to `last`.
+    pub fn of(first: u32, last: u32, days: &'a [ListedDay]) -> Result<ListedCalendar<'a>, Refusal>
+        ensures { result_map_both (λ c. by_list c.first c.last c.days.now) (λ e. e) result ≡ listing first last days.now }
+    {
+        if first > last || first < FIRST_DAY || last > LAST_DAY || !rise_within(first, last, days) {
+            return Err(Refusal::WrongCalendar);
+        }
+        Ok(ListedCalendar { first, last, days })
+    }
+
     /// Reads a list of trading days from `first` to `last`, in place of what it had read before.
     pub fn read(&mut self, first: u32, last: u32, days: &'a [ListedDay]) -> Result<(), Refusal>
         ensures answer { result ≡ reading first last days.now }
         ensures made { is_ok result ≡ true → by_list self.new.first self.new.last self.new.days.now ≡ by_list first last days.now }
         ensures same { is_ok result ≡ false → self.new ≡ self.old }
     {
-        if first > last || first < FIRST_DAY || last > LAST_DAY || !rise_within(first, last, days) {
-            return Err(Refusal::WrongCalendar);
-        }
-        *self = ListedCalendar { first, last, days };
+        *self = ListedCalendar::of(first, last, days)?;
         Ok(())
     }
 }
@@ -107,7 +86,7 @@ impl<'a> Calendar for ListedCalendar<'a> {
     ghost lawful = { λ c. list_lawful c.first c.last c.days.now c.short c.rises };
 
     fn ask(&self, day: u32) -> Option<Day> {
-        if day < self.first || day > self.last {
+        if !(self.first..=self.last).contains(&day) {
             return None;
         }
         Some(self.look_up(day))

@@ -1,107 +1,70 @@
 //! The trading days beside a day, for every calendar.
-ghost use Rattle.std.specs.Prelude.{◌≡◌, ℕ, suc};
+ghost use Rattle.std.specs.Prelude.{◌≡◌};
 ghost use Rattle.calendar.specs.Meaning.{trading};
-ghost use Rattle.calendar.specs.Trading.{nearest, days_along, next_trading_day, previous_trading_day, Answers, NextWithin, PreviousWithin};
-ghost use Rattle.calendar.specs.Steps.{beside, met};
+ghost use Rattle.calendar.specs.Trading.{nearest, days_after, days_until, next_trading_day, previous_trading_day, Answers, NextWithin, PreviousWithin};
+ghost use Rattle.calendar.specs.Steps.{Gives, later, earlier};
 
 use super::calendar::Calendar;
 
 /// A neighbour is at most so many days away.
 const REACH: u32 = 14;
 
-/// The way in which a neighbour is looked for.
-#[derive(Clone, Copy)]
-enum Way {
-    Onward,
-    Back,
-}
-
-/// What one step towards a neighbour meets.
-#[derive(Clone, Copy)]
-enum Step {
-    Trading(u32),
-    Closed(u32),
-    Unknown,
-}
-
-impl Way {
-    /// The day beside this one: none before day 0, and none that no number names.
-    fn beside(self, day: u32) -> Option<u32>
-        ensures { result ≡ beside self day }
-    {
-        match self {
-            Way::Onward => day.checked_add(1),
-            Way::Back => day.checked_sub(1),
-        }
-    }
-}
-
 /// Is the day a known trading day?
 pub fn is_trading_day<C: Calendar>(calendar: &C, day: u32) -> bool
     ensures { result ≡ trading (C.meaning calendar.now) day }
 {
-    match calendar.ask(day) {
-        Some(known) => known.kind.trades(),
-        None => false,
-    }
+    calendar.ask(day).is_some_and(|known| known.kind.trades())
 }
 
-/// Goes one day on and asks about it.
-fn look<C: Calendar>(calendar: &C, day: u32, way: Way) -> Step
-    ensures { (n : ℕ) → nearest (C.meaning calendar.now) (days_along way (suc n) day) ≡ met (C.meaning calendar.now) way n result }
+/// The day after this one; none that no number names.
+fn day_after(day: u32) -> Option<u32>
+    ensures { result ≡ later day }
 {
-    let Some(at) = way.beside(day) else {
-        return Step::Unknown;
-    };
-    match calendar.ask(at) {
-        Some(known) => if known.kind.trades() {
-            Step::Trading(at)
-        } else {
-            Step::Closed(at)
-        },
-        None => Step::Unknown,
-    }
+    day.checked_add(1)
 }
 
-/// The nearest trading day in one way within `reach` days, all days up to it being known.
-fn neighbour<C: Calendar>(calendar: &C, day: u32, way: Way, reach: u32) -> Option<u32>
-    ensures { result ≡ nearest (C.meaning calendar.now) (days_along way reach day) }
+/// The day before this one; none before day 0.
+fn day_before(day: u32) -> Option<u32>
+    ensures { result ≡ earlier day }
+{
+    day.checked_sub(1)
+}
+
+/// The first trading day among the `reach` days that `beside` gives one after another, all days up to it being known.
+fn neighbour<C: Calendar, B: Fn(u32) -> Option<u32>>(
+    calendar: &C,
+    day: u32,
+    reach: u32,
+    beside: B,
+) -> Option<u32>
+    requires { B.IsAlwaysCallable beside }
+    ensures onward { Gives (B.post beside) later → result ≡ nearest (C.meaning calendar.now) (days_after reach day) }
+    ensures back { Gives (B.post beside) earlier → result ≡ nearest (C.meaning calendar.now) (days_until reach day) }
 {
     let mut at = day;
-    for tried in 0..reach {
-        match look(calendar, at, way) {
-            Step::Trading(found) => return Some(found),
-            Step::Closed(passed) => at = passed,
-            Step::Unknown => return None,
+    for _tried in 0..reach {
+        at = beside(at)?;
+        if calendar.ask(at)?.kind.trades() {
+            return Some(at);
         }
     }
     None
 }
 
-fn trading_day_after<C: Calendar>(calendar: &C, day: u32) -> Option<u32>
-    ensures { result ≡ next_trading_day (C.meaning calendar.now) day }
-{
-    neighbour(calendar, day, Way::Onward, REACH)
-}
-
-fn trading_day_before<C: Calendar>(calendar: &C, day: u32) -> Option<u32>
-    ensures { result ≡ previous_trading_day (C.meaning calendar.now) day }
-{
-    neighbour(calendar, day, Way::Back, REACH)
-}
-
 /// The nearest trading day after `day`, within 14 days and with all days up to it known.
+#[tactic(auto, using(crate::proofs::Nearest::next_within))]
 pub fn next_trading_day<C: Calendar>(calendar: &C, day: u32) -> Option<u32>
     ensures value { result ≡ next_trading_day (C.meaning calendar.now) day }
     ensures nearest { Answers (NextWithin (C.meaning calendar.now) 14 day) result }
 {
-    trading_day_after(calendar, day)
+    neighbour(calendar, day, REACH, day_after)
 }
 
 /// The nearest trading day before `day`, within 14 days and with all days down to it known.
+#[tactic(auto, using(crate::proofs::Nearest::previous_within))]
 pub fn previous_trading_day<C: Calendar>(calendar: &C, day: u32) -> Option<u32>
     ensures value { result ≡ previous_trading_day (C.meaning calendar.now) day }
     ensures nearest { Answers (PreviousWithin (C.meaning calendar.now) 14 day) result }
 {
-    trading_day_before(calendar, day)
+    neighbour(calendar, day, REACH, day_before)
 }

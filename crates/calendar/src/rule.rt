@@ -1,5 +1,6 @@
 //! The calendar by rule.
 ghost use Rattle.std.specs.Prelude.{◌≡◌};
+ghost use Rattle.civil.specs.Dates.{date_of};
 ghost use Rattle.calendar.specs.Rule.{by_rule, yearly_closing, early_closing, is_closed, kind_on, offset_on};
 ghost use Rattle.calendar.specs.Lawful.{rule_lawful};
 
@@ -27,57 +28,70 @@ pub struct RuleCalendar;
 fn is_yearly_closing(date: Date) -> bool
     ensures { result ≡ yearly_closing date }
 {
-    match date.month {
-        Month::January | Month::May => date.day == 1,
-        Month::December => date.day == 25 || date.day == 26,
-        _ => false,
-    }
+    matches!(
+        (date.month, date.day),
+        (Month::January | Month::May, 1) | (Month::December, 25 | 26)
+    )
 }
 
 /// Does the market close early on this date?
 fn is_early_closing(date: Date) -> bool
     ensures { result ≡ early_closing date }
 {
-    match date.month {
-        Month::December => date.day == 24 || date.day == 31,
-        _ => false,
-    }
+    matches!((date.month, date.day), (Month::December, 24 | 31))
 }
 
-/// Is the market closed on the day?
-fn is_closed(day: u32, date: Date) -> bool
-    ensures { result ≡ is_closed day date }
-{
-    if Weekday::of(day).is_weekend() || is_yearly_closing(date) {
-        return true;
-    }
-    let easter = easter_sunday(date.year);
-    let day = day as u64;
-    day + 2 == easter || day == easter + 1
+/// A day with its date.
+#[derive(Clone, Copy)]
+struct DatedDay {
+    day: u32,
+    date: Date,
 }
 
-fn kind_of(day: u32, date: Date) -> Kind
-    ensures { result ≡ kind_on day date }
-{
-    if is_closed(day, date) {
-        Kind::Closed
-    } else if is_early_closing(date) {
-        Kind::Half
-    } else {
-        Kind::Full
+impl DatedDay {
+    fn of(day: u32) -> DatedDay
+        ensures { (result.day ≡ day) × (result.date ≡ date_of day) }
+    {
+        DatedDay {
+            day,
+            date: Date::of(day),
+        }
     }
-}
 
-fn offset_of(day: u32, date: Date) -> u32
-    ensures { result ≡ offset_on day date }
-{
-    let day = day as u64;
-    let spring = last_sunday(date.year, Month::March);
-    let autumn = last_sunday(date.year, Month::October);
-    if spring <= day && day < autumn {
-        SUMMER
-    } else {
-        0
+    /// Is the market closed on the day?
+    fn is_closed(self) -> bool
+        ensures { result ≡ is_closed self.day self.date }
+    {
+        let easter = easter_sunday(self.date.year);
+        let day = self.day as u64;
+        Weekday::of(self.day).is_weekend()
+            || is_yearly_closing(self.date)
+            || day + 2 == easter
+            || day == easter + 1
+    }
+
+    fn kind(self) -> Kind
+        ensures { result ≡ kind_on self.day self.date }
+    {
+        if self.is_closed() {
+            Kind::Closed
+        } else if is_early_closing(self.date) {
+            Kind::Half
+        } else {
+            Kind::Full
+        }
+    }
+
+    fn offset(self) -> u32
+        ensures { result ≡ offset_on self.day self.date }
+    {
+        let spring = last_sunday(self.date.year, Month::March);
+        let autumn = last_sunday(self.date.year, Month::October);
+        if (spring..autumn).contains(&(self.day as u64)) {
+            SUMMER
+        } else {
+            0
+        }
     }
 }
 
@@ -87,13 +101,13 @@ impl Calendar for RuleCalendar {
     ghost lawful = { λ _. rule_lawful };
 
     fn ask(&self, day: u32) -> Option<Day> {
-        if day < FIRST_DAY || day > LAST_DAY {
+        if !(FIRST_DAY..=LAST_DAY).contains(&day) {
             return None;
         }
-        let date = Date::of(day);
+        let dated = DatedDay::of(day);
         Some(Day {
-            kind: kind_of(day, date),
-            offset: offset_of(day, date),
+            kind: dated.kind(),
+            offset: dated.offset(),
         })
     }
 }

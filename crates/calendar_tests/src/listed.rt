@@ -2,7 +2,7 @@
 use calendar::calendar::Calendar;
 use calendar::day::{Day, Kind, ListedDay};
 use calendar::listed::ListedCalendar;
-use calendar::neighbour::next_trading_day;
+use calendar::neighbour::{next_trading_day, previous_trading_day};
 use refusal::Refusal;
 
 const WEEK: [ListedDay; 3] = [
@@ -23,6 +23,10 @@ const WEEK: [ListedDay; 3] = [
     },
 ];
 
+fn known(kind: Kind, offset: u32) -> Option<Day> {
+    Some(Day { kind, offset })
+}
+
 fn reading(first: u32, last: u32, days: &[ListedDay]) -> Result<(), Refusal> {
     let mut calendar = ListedCalendar::new();
     calendar.read(first, last, days)
@@ -34,50 +38,31 @@ fn a_list_is_read(rt: HostRuntime) {
     assert_eq!(rt; calendar.ask(17_600), None);
     assert_eq!(rt; calendar.read(17_600, 17_620, &WEEK), Ok(()));
     assert_eq!(rt; calendar.ask(17_599), None);
-    assert_eq!(rt;
-        calendar.ask(17_600),
-        Some(Day {
-            kind: Kind::Full,
-            offset: 0,
-        })
-    );
-    assert_eq!(rt;
-        calendar.ask(17_601),
-        Some(Day {
-            kind: Kind::Closed,
-            offset: 0,
-        })
-    );
-    assert_eq!(rt;
-        calendar.ask(17_603),
-        Some(Day {
-            kind: Kind::Half,
-            offset: 3_600,
-        })
-    );
-    assert_eq!(rt;
-        calendar.ask(17_620),
-        Some(Day {
-            kind: Kind::Closed,
-            offset: 0,
-        })
-    );
+    assert_eq!(rt; calendar.ask(17_600), known(Kind::Full, 0));
+    assert_eq!(rt; calendar.ask(17_601), known(Kind::Closed, 0));
+    assert_eq!(rt; calendar.ask(17_603), known(Kind::Half, 3_600));
+    assert_eq!(rt; calendar.ask(17_620), known(Kind::Closed, 0));
     assert_eq!(rt; calendar.ask(17_621), None);
     assert_eq!(rt; next_trading_day(&calendar, 17_603), Some(17_610));
     assert_eq!(rt; next_trading_day(&calendar, 17_610), None);
 }
 
 #[test]
+fn a_list_makes_a_calendar(rt: HostRuntime) -> Result<(), Refusal> {
+    let calendar = ListedCalendar::of(17_600, 17_620, &WEEK)?;
+    assert_eq!(rt; calendar.ask(17_599), None);
+    assert_eq!(rt; calendar.ask(17_602), known(Kind::Closed, 0));
+    assert_eq!(rt; calendar.ask(17_603), known(Kind::Half, 3_600));
+    assert_eq!(rt; previous_trading_day(&calendar, 17_610), Some(17_603));
+    assert!(rt; ListedCalendar::of(17_601, 17_620, &WEEK).is_err());
+    Ok(())
+}
+
+#[test]
 fn an_empty_list_is_closed(rt: HostRuntime) {
     let mut calendar = ListedCalendar::new();
     assert_eq!(rt; calendar.read(17_600, 17_600, &[]), Ok(()));
-    assert_eq!(rt;
-        calendar.ask(17_600),
-        Some(Day {
-            kind: Kind::Closed,
-            offset: 0,
-        })
-    );
+    assert_eq!(rt; calendar.ask(17_600), known(Kind::Closed, 0));
 }
 
 #[test]
@@ -88,13 +73,7 @@ fn a_refused_list_changes_nothing(rt: HostRuntime) {
         calendar.read(17_601, 17_620, &WEEK),
         Err(Refusal::WrongCalendar)
     );
-    assert_eq!(rt;
-        calendar.ask(17_600),
-        Some(Day {
-            kind: Kind::Full,
-            offset: 0,
-        })
-    );
+    assert_eq!(rt; calendar.ask(17_600), known(Kind::Full, 0));
 }
 
 #[test]

@@ -1,3 +1,4 @@
 pub mod Counting
 pub mod Sundays
 pub mod Years
+pub mod Months

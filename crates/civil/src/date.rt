@@ -1,6 +1,6 @@
 //! Civil dates.
-ghost use Rattle.std.specs.Prelude.{◌≡◌, ◌+◌, ◌-◌, ◌*◌, ◌≤◌};
-ghost use Rattle.civil.specs.Dates.{date_of, day_number, days_before, month_length};
+ghost use Rattle.std.specs.Prelude.{◌≡◌, ◌+◌, ◌-◌, ◌*◌, ◌<◌, ◌≤◌};
+ghost use Rattle.civil.specs.Dates.{date_of, day_number, days_before, month_length, year_length};
 
 use super::month::Month;
 use super::year::{first_day, is_leap, year_of};
@@ -13,9 +13,12 @@ pub struct Date {
     pub day: u32,
 }
 
+// Year and month are two parameters: callers have them apart, and a pair would be taken apart again in each function.
+
 /// How many days the month has.
 pub(crate) fn length_of(year: u32, month: Month) -> u32
-    ensures { result ≡ month_length year month }
+    ensures value { result ≡ month_length year month }
+    ensures bound { result ≤ 31 }
 {
     match month {
         Month::February => if is_leap(year) { 29 } else { 28 },
@@ -57,22 +60,30 @@ pub fn day_number(year: u32, month: Month, day: u32) -> u64
     first_day(year) + days_before(year, month) as u64 + day.saturating_sub(1) as u64
 }
 
+/// The month in which the day lies that is so many days after the year's first.
+fn month_at(year: u32, since: u32) -> Month
+    requires { since < year_length year }
+    ensures begun { days_before year result ≤ since }
+    ensures ahead { since < days_before year result + month_length year result }
+{
+    *Month::ALL
+        .iter()
+        .find(|&&month| since < days_before(year, month) + length_of(year, month))
+        .unwrap()
+}
+
 impl Date {
     /// The date of the day.
     pub fn of(day: u32) -> Date
         ensures { result ≡ date_of day }
     {
         let year = year_of(day);
-        let mut month = Month::January;
-        let mut left = (day as u64 - first_day(year)) as u32;
-        while left >= length_of(year, month) {
-            left -= length_of(year, month);
-            month = month.following();
-        }
+        let since = (day as u64 - first_day(year)) as u32;
+        let month = month_at(year, since);
         Date {
             year,
             month,
-            day: left + 1,
+            day: since - days_before(year, month) + 1,
         }
     }
 }

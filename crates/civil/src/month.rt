@@ -19,6 +19,23 @@ pub enum Month {
 }
 
 impl Month {
+    /// The months of a year, in their order.
+    pub const ALL: [Month; 12] = [
+        Month::January,
+        Month::February,
+        Month::March,
+        Month::April,
+        Month::May,
+        Month::June,
+        Month::July,
+        Month::August,
+        Month::September,
+        Month::October,
+        Month::November,
+        Month::December,
+    ];
+
+    // By name and not by `From`: a month is no number, it has one.
     /// The month's number, January's being 1.
     pub fn number(self) -> u32
         ensures { result ≡ place self + 1 }

@@ -1,5 +1,6 @@
 //! Dates as they are written, and the names of months and weekdays.
 ghost use Rattle.std.specs.Prelude.{◌≡◌, Some};
+ghost use Rattle.std.specs.Fmt.{padded};
 ghost use Rattle.civil.specs.Text.{date_text, month_name, weekday_name};
 
 use super::date::Date;
@@ -11,9 +12,8 @@ impl fmt::Display for Date {
     ghost output = { λ t. Some (date_text t) };
 
     fn fmt<W: fmt::Write>(&self, f: &mut fmt::Formatter<W>) -> fmt::Result {
-        let year = self.year;
-        let month = self.month.number();
-        let day = self.day;
+        let Date { year, month, day } = *self;
+        let month = month.number();
         write!(
             f,
             "{year}-{}{}-{}{}",
@@ -47,6 +47,17 @@ impl Month {
     }
 }
 
+impl fmt::Display for Month {
+    ghost output = { λ m. Some (month_name m) };
+
+    ghost styled_output = { λ m spec. Some (padded spec (month_name m)) };
+
+    fn fmt<W: fmt::Write>(&self, f: &mut fmt::Formatter<W>) -> fmt::Result {
+        let month = self.name();
+        f.pad(month)
+    }
+}
+
 impl Weekday {
     /// The weekday's name.
     pub fn name(self) -> &'static str
@@ -61,5 +72,16 @@ impl Weekday {
             Weekday::Saturday => "Saturday",
             Weekday::Sunday => "Sunday",
         }
+    }
+}
+
+impl fmt::Display for Weekday {
+    ghost output = { λ w. Some (weekday_name w) };
+
+    ghost styled_output = { λ w spec. Some (padded spec (weekday_name w)) };
+
+    fn fmt<W: fmt::Write>(&self, f: &mut fmt::Formatter<W>) -> fmt::Result {
+        let weekday = self.name();
+        f.pad(weekday)
     }
 }

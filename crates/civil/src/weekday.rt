@@ -16,34 +16,30 @@ pub enum Weekday {
     Sunday,
 }
 
+/// The weekdays from day 0 on.
+const WEEK_FROM_DAY_ZERO: [Weekday; 7] = [
+    Weekday::Thursday,
+    Weekday::Friday,
+    Weekday::Saturday,
+    Weekday::Sunday,
+    Weekday::Monday,
+    Weekday::Tuesday,
+    Weekday::Wednesday,
+];
+
 impl Weekday {
     /// The weekday of a day; day 0 was a Thursday.
     pub fn of(day: u32) -> Weekday
         ensures { result ≡ weekday_of day }
     {
-        match day % 7 {
-            0 => Weekday::Thursday,
-            1 => Weekday::Friday,
-            2 => Weekday::Saturday,
-            3 => Weekday::Sunday,
-            4 => Weekday::Monday,
-            5 => Weekday::Tuesday,
-            _ => Weekday::Wednesday,
-        }
+        WEEK_FROM_DAY_ZERO[day as usize % 7]
     }
 
     /// Is it a Saturday or a Sunday?
     pub fn is_weekend(self) -> bool
         ensures { result ≡ is_weekend self }
     {
-        match self {
-            Weekday::Saturday | Weekday::Sunday => true,
-            Weekday::Monday
-            | Weekday::Tuesday
-            | Weekday::Wednesday
-            | Weekday::Thursday
-            | Weekday::Friday => false,
-        }
+        matches!(self, Weekday::Saturday | Weekday::Sunday)
     }
 }
 

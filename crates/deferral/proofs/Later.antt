@@ -1,9 +1,9 @@
 -- The larger trade is never earlier.
-use Rattle.std.proofs.Common.{◌≡◌, ℕ, ◌-◌, ◌^◌, ◌≤◌, min, max, Bool, true, false, cond, eqb, leb, List, [], ◌∷◌, ◌++◌, is_some, Some, None, Ok, Err, Option, Result, unwrap_or, sym, refl, ap, ◌∙◌, subst, arith}
+use Rattle.std.proofs.Common.{◌≡◌, ℕ, ◌-◌, ◌^◌, ◌≤◌, min, max, Bool, true, false, cond, eqb, leb, [], ◌∷◌, is_some, Some, None, Ok, Err, Option, Result, unwrap_or, sym, refl, ap, ◌∙◌, subst, arith}
 use Rattle.std.proofs.lemmas.Bool.{eqb-true, not-false}
 use Rattle.refusal.specs.declared.Refusal.{Refusal}
 use Rattle.refusal.specs.declared.Refusal.TheVariants.{NoTradingDay}
-use Rattle.refusal.specs.Grounds.{Ground, first_ground}
+use Rattle.refusal.specs.Grounds.{Ground, first_ground, unless}
 use Rattle.calendar.specs.Meaning.{Meaning, Lawful, trading}
 use Rattle.calendar.specs.Trading.{next_trading_day, previous_trading_day}
 use Rattle.deferral.specs.declared.deadlines.Deadlines.{Deadlines}
@@ -13,27 +13,14 @@ use Rattle.deferral.specs.declared.tier.Tier.{Tier}
 use Rattle.deferral.specs.declared.trade.Publication.{Publication}
 use Rattle.deferral.specs.declared.trade.Trade.{Trade}
 use Rattle.deferral.specs.Deadlines.{day_of, opened, opened_with, with_neighbours, deadlines_for}
-use Rattle.deferral.specs.Judged.{turnover, asks, trade_tier, published, closed_ground, size_ground, turnover_ground, execution_ground, trade_grounds, unless, judged_in, if_opened, AlikeButSize, LargerNeverEarlier}
+use Rattle.deferral.specs.Judged.{turnover, asks, trade_tier, published, closed_ground, size_ground, turnover_ground, execution_ground, judged_in, if_opened, AlikeButSize, LargerNeverEarlier}
 use Rattle.deferral.specs.Publication.{tier_if, tier_moment, Timely}
 use Rattle.deferral.specs.Tiers.{tier_number, Rises}
 use Rattle.deferral.proofs.Opening.{next_found, previous_found}
 use Rattle.deferral.proofs.Timely.{timely, moments_rise}
 
--- a ground among the first two is the first of more
-pub first_of_more : (g h : Ground) (gs : List Ground) (r : Refusal) → Some r ≡ first_ground (g ∷ h ∷ []) → first_ground (g ∷ h ∷ gs) ≡ Some r
-first_of_more g h gs r e = by_cases g.there h.there e
-  where
-    by_cases : (a b : Bool) → Some r ≡ cond a (Some g.refusal) (cond b (Some h.refusal) None)
-        → cond a (Some g.refusal) (cond b (Some h.refusal) (first_ground gs)) ≡ Some r
-    by_cases true b e = sym e
-    by_cases false true e = sym e
-    by_cases false false e = let z : ◌≡◌ {A = ℕ} 0 1 = cc in absurd (omega arith)
-
 tier_if_rises : (b c : Bool) (s t : Tier) → b ≡ c → tier_number s ≤ tier_number t → tier_number (tier_if b s) ≤ tier_number (tier_if c t)
-tier_if_rises true true s t e h = h
-tier_if_rises false false s t e h = omega arith
-tier_if_rises true false s t e h = let z : ◌≡◌ {A = ℕ} 0 1 = cc in absurd (omega arith)
-tier_if_rises false true s t e h = omega arith
+tier_if_rises b c s t e h = grind arith
 
 tiers_rise : (tier : Question → Tier) → Rises tier → (t u : Trade) → AlikeButSize t u → turnover t ≤ turnover u
     → tier_number (trade_tier tier t) ≤ tier_number (trade_tier tier u)
@@ -64,10 +51,10 @@ pub record Facts (m : Meaning) (day : ℕ) (b : Bool) (p n : Option ℕ) (o : Op
 
 pub facts : (m : Meaning) (day : ℕ) (b : Bool) (p n : Option ℕ) (o : Opened) → cond b (with_neighbours m day p n) (Err NoTradingDay) ≡ Ok o → Facts m day b p n o
 facts m day true (Some p) (Some n) o e = record { trades = refl; previous = p; next = n; previous_is = refl; next_is = refl; is = cc }
-facts m day true (Some p) None o e = let z : ◌≡◌ {A = ℕ} 0 1 = cc in absurd (omega arith)
-facts m day true None (Some n) o e = let z : ◌≡◌ {A = ℕ} 0 1 = cc in absurd (omega arith)
-facts m day true None None o e = let z : ◌≡◌ {A = ℕ} 0 1 = cc in absurd (omega arith)
-facts m day false p n o e = let z : ◌≡◌ {A = ℕ} 0 1 = cc in absurd (omega arith)
+facts m day true (Some p) None o e = absurd (grind arith)
+facts m day true None (Some n) o e = absurd (grind arith)
+facts m day true None None o e = absurd (grind arith)
+facts m day false p n o e = absurd (grind arith)
 
 -- an execution in an opened day, or in the trading day before it, is timely
 abbrev pub InTime : Opened → ℕ → Type 0
@@ -88,8 +75,8 @@ chosen : (x y : Deadlines) (execution : ℕ) (a b c : Bool) → (b ≡ true → 
     → Timely (unwrap_or (cond a (cond b (Some x) (cond c (Some y) None)) None) x) execution
 chosen x y execution true true c p q e = p refl
 chosen x y execution true false true p q e = q refl
-chosen x y execution true false false p q e = let z : ◌≡◌ {A = ℕ} 0 1 = cc in absurd (omega arith)
-chosen x y execution false b c p q e = let z : ◌≡◌ {A = ℕ} 0 1 = cc in absurd (omega arith)
+chosen x y execution true false false p q e = absurd (grind arith)
+chosen x y execution false b c p q e = absurd (grind arith)
 
 deadlines_timely : (m : Meaning) (day clock execution : ℕ) (o : Opened) → Lawful m → opened m day ≡ Ok o → is_some (deadlines_for o clock execution) ≡ true
     → Timely (unwrap_or (deadlines_for o clock execution) o.today) execution
@@ -98,40 +85,28 @@ deadlines_timely m day clock execution o law e some =
     chosen o.today o.before execution (leb execution clock) (eqb (day_of execution) o.day) (eqb (day_of execution) o.previous)
     (λ h. t.0 (eqb-true _ _ h)) (λ h. t.1 (eqb-true _ _ h)) some
 
--- an answer that is no refusal
-pub record Taken {X : Type 0} (r : Option Refusal) (x y : X) : Type 0 where
-  pub none : r ≡ None
-  pub same : x ≡ y
-
-taken : {X : Type 0} (r : Option Refusal) (x y : X) → unless r x ≡ Ok y → Taken r x y
-taken None x y e = record { none = refl; same = cc }
-taken (Some r) x y e = let z : ◌≡◌ {A = ℕ} 0 1 = cc in absurd (omega arith)
-
-alone : (b : Bool) (r : Refusal) → cond b (Some r) None ≡ None → b ≡ false
-alone false r e = refl
-alone true r e = let z : ◌≡◌ {A = ℕ} 0 1 = cc in absurd (omega arith)
-
-passed : (b : Bool) (r : Refusal) (rest : Option Refusal) → cond b (Some r) rest ≡ None → rest ≡ None
-passed false r rest e = e
-passed true r rest e = let z : ◌≡◌ {A = ℕ} 0 1 = cc in absurd (omega arith)
-
--- where no ground is there, neither is the last
-last_not_there : (gs : List Ground) (h : Ground) → first_ground (gs ++ h ∷ []) ≡ None → h.there ≡ false
-last_not_there [] h e = alone h.there h.refusal e
-last_not_there (x ∷ xs) h e = last_not_there xs h (passed x.there x.refusal (first_ground (xs ++ h ∷ [])) e)
+-- an answer that is no refusal: none of four grounds is there
+allowed : {X : Type 0} (g h i j : Ground) (x y : X) → unless (first_ground (g ∷ h ∷ i ∷ j ∷ [])) x ≡ Ok y → (j.there ≡ false) × (x ≡ y)
+allowed {X} g h i j x y e = by_cases g.there h.there i.there j.there e
+  where
+    by_cases : (a b c d : Bool) → unless (cond a (Some g.refusal) (cond b (Some h.refusal) (cond c (Some i.refusal) (cond d (Some j.refusal) None)))) x ≡ Ok y → (d ≡ false) × (x ≡ y)
+    by_cases false false false false e = (refl, cc)
+    by_cases false false false true e = absurd (grind arith)
+    by_cases false false true d e = absurd (grind arith)
+    by_cases false true c d e = absurd (grind arith)
+    by_cases true b c d e = absurd (grind arith)
 
 in_opened : (m : Meaning) (tier : Question → Tier) (clock : ℕ) (o : Opened) (t u : Trade) (p q : Publication) → Lawful m → Rises tier
     → opened m (day_of clock) ≡ Ok o → AlikeButSize t u → turnover t ≤ turnover u
     → judged_in tier o clock t ≡ Ok p → judged_in tier o clock u ≡ Ok q → p.moment ≤ q.moment
 in_opened m tier clock o t u p q law rises is alike h e f =
     let d = unwrap_or (deadlines_for o clock u.execution) o.today in
-    let a = taken (first_ground (trade_grounds o clock t)) (published tier (unwrap_or (deadlines_for o clock t.execution) o.today) clock t) p e in
-    let b = taken (first_ground (trade_grounds o clock u)) (published tier d clock u) q f in
-    let some : is_some (deadlines_for o clock u.execution) ≡ true =
-    not-false _ (last_not_there (closed_ground o clock ∷ size_ground u.price u.quantity ∷ turnover_ground u.price u.quantity ∷ []) (execution_ground o clock u.execution) b.none) in
+    let a = allowed (closed_ground o clock) (size_ground t.price t.quantity) (turnover_ground t.price t.quantity) (execution_ground o clock t.execution) _ p e in
+    let b = allowed (closed_ground o clock) (size_ground u.price u.quantity) (turnover_ground u.price u.quantity) (execution_ground o clock u.execution) _ q f in
+    let some : is_some (deadlines_for o clock u.execution) ≡ true = not-false _ b.0 in
     let first : (published tier d clock t).moment ≡ p.moment =
-    ap (λ (x : ℕ). (published tier (unwrap_or (deadlines_for o clock x) o.today) clock t).moment) (sym alike.execution) ∙ ap (λ (x : Publication). x.moment) a.same in
-    let second : (published tier d clock u).moment ≡ q.moment = ap (λ (x : Publication). x.moment) b.same in
+    ap (λ (x : ℕ). (published tier (unwrap_or (deadlines_for o clock x) o.today) clock t).moment) (sym alike.execution) ∙ ap (λ (x : Publication). x.moment) a.1 in
+    let second : (published tier d clock u).moment ≡ q.moment = ap (λ (x : Publication). x.moment) b.1 in
     let ordered = published_rises tier rises d clock t u (deadlines_timely m (day_of clock) clock u.execution o law is some) alike h in
     subst (λ (x : ℕ). x ≤ q.moment) first (subst (λ (y : ℕ). (published tier d clock t).moment ≤ y) second ordered)
 
@@ -139,7 +114,7 @@ if_day_opened : (m : Meaning) (tier : Question → Tier) (clock : ℕ) (r : Resu
     → opened m (day_of clock) ≡ r → AlikeButSize t u → turnover t ≤ turnover u
     → if_opened tier clock t r ≡ Ok p → if_opened tier clock u r ≡ Ok q → p.moment ≤ q.moment
 if_day_opened m tier clock (Ok o) t u p q law rises is alike h e f = in_opened m tier clock o t u p q law rises is alike h e f
-if_day_opened m tier clock (Err r) t u p q law rises is alike h e f = let z : ◌≡◌ {A = ℕ} 0 1 = cc in absurd (omega arith)
+if_day_opened m tier clock (Err r) t u p q law rises is alike h e f = absurd (grind arith)
 
 pub larger_never_earlier : (m : Meaning) (tier : Question → Tier) → Lawful m → Rises tier → LargerNeverEarlier m tier
 larger_never_earlier m tier law rises clock t u p q alike h e f =

@@ -3,7 +3,6 @@ use Rattle.std.proofs.Common.{◌≡◌, ℕ, ◌<◌, ◌≤◌, true, leb, inl
 use Rattle.std.proofs.lemmas.Bool.{and_parts, leb-true}
 use Rattle.std.proofs.lemmas.Bool.Decides.{nat_tests}
 use Rattle.calendar.specs.declared.day.Kind.{Kind}
-use Rattle.calendar.specs.declared.day.Kind.TheVariants.{Closed, Half, Full}
 use Rattle.calendar.specs.Meaning.{Meaning, Lawful, known, trades, trading}
 use Rattle.calendar.specs.Trading.{closing_time}
 use Rattle.deferral.specs.declared.deadlines.Deadlines.{Deadlines}
@@ -14,9 +13,7 @@ use Rattle.deferral.specs.Publication.{tier_moment, Timely}
 use Rattle.deferral.specs.Tiers.{tier_number}
 
 pub closes : (k : Kind) → (47700 ≤ closing_time k) × (closing_time k ≤ 62100)
-closes Closed = omega arith
-closes Half = omega arith
-closes Full = omega arith
+closes k = grind arith
 
 pub hour : (m : Meaning) (day : ℕ) → Lawful m → trading m day ≡ true → m.offset day ≤ 3600
 hour m day law t =

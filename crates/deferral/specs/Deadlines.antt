@@ -7,6 +7,7 @@ use Rattle.calendar.specs.Meaning.{Meaning, trading}
 use Rattle.calendar.specs.Trading.{opening, noon_point, close, next_trading_day, previous_trading_day}
 use Rattle.deferral.specs.declared.deadlines.Deadlines.{Deadlines}
 use Rattle.deferral.specs.declared.opened.Opened.{Opened}
+use Rattle.deferral.specs.declared.opened.TradingDay.{TradingDay}
 
 -- the day of a moment
 abbrev pub day_of : ℕ → ℕ
@@ -14,6 +15,10 @@ day_of moment = moment / 86400
 
 abbrev pub hours : Meaning → ℕ → Hours
 hours m day = record { opening = opening m day; noon = noon_point m day; close = close m day }
+
+-- a day with its hours
+abbrev pub timed : Meaning → ℕ → TradingDay
+timed m day = record { number = day; hours = hours m day }
 
 -- the close of an execution day, and the hours of the trading day after it
 abbrev pub deadlines : Meaning → ℕ → ℕ → Deadlines

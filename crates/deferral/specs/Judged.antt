@@ -1,9 +1,9 @@
 -- A trade judged at the clock: the first ground against it, or when the market may see it.
-use Rattle.std.specs.Prelude.{◌≡◌, ℕ, ◌-◌, ◌*◌, ◌^◌, ◌≤◌, min, Bool, not, ◌&&◌, List, [], ◌∷◌, is_some, Some, None, Ok, Err, Option, Result, nat_le, nat_lt}
+use Rattle.std.specs.Prelude.{◌≡◌, ℕ, ◌-◌, ◌*◌, ◌^◌, ◌≤◌, min, Bool, not, ◌&&◌, List, [], ◌∷◌, is_some, Ok, Err, Result, nat_le, nat_lt}
 use Rattle.std.specs.Option.{unwrap_or}
 use Rattle.refusal.specs.declared.Refusal.{Refusal}
 use Rattle.refusal.specs.declared.Refusal.TheVariants.{MarketClosed, PriceOrQuantity, TurnoverTooLarge, ExecutionMoment}
-use Rattle.refusal.specs.Grounds.{Ground, first_ground}
+use Rattle.refusal.specs.Grounds.{Ground, first_ground, unless}
 use Rattle.calendar.specs.Meaning.{Meaning}
 use Rattle.deferral.specs.declared.deadlines.Deadlines.{Deadlines}
 use Rattle.deferral.specs.declared.opened.Opened.{Opened}
@@ -51,10 +51,6 @@ published tier d clock t =
 abbrev pub trade_grounds : Opened → ℕ → Trade → List Ground
 trade_grounds o clock t =
     closed_ground o clock ∷ size_ground t.price t.quantity ∷ turnover_ground t.price t.quantity ∷ execution_ground o clock t.execution ∷ []
-
-abbrev pub unless : {X : Type 0} → Option Refusal → X → Result X Refusal
-unless None x = Ok x
-unless (Some r) x = Err r
 
 -- in an opened day
 abbrev pub judged_in : (Question → Tier) → Opened → ℕ → Trade → Result Publication Refusal

@@ -1,5 +1,7 @@
 -- What the code's own table means.
-use Rattle.std.specs.Prelude.{ℕ, cond, List, [], ◌∷◌, nat_le}
+use Rattle.std.specs.Prelude.{ℕ, List, [], ◌∷◌, nat_le}
+use Rattle.std.specs.List.{find}
+use Rattle.std.specs.Option.{option_map, unwrap_or}
 use Rattle.deferral.specs.declared.row.Row.{Row}
 use Rattle.deferral.specs.declared.tier.Tier.TheVariants.{One, Two, Four}
 use Rattle.deferral.specs.Amounts.{Step}
@@ -7,11 +9,10 @@ use Rattle.deferral.specs.Amounts.{Step}
 abbrev pub steps_of : Row → List Step
 steps_of r = record { amount = r.first; tier = One } ∷ record { amount = r.second; tier = Two } ∷ record { amount = r.third; tier = r.top } ∷ []
 
--- the row that serves what no other does
-abbrev pub smallest : Row
-smallest = record { from = 0; first = 7500; second = 15000; third = 25000; top = Four }
+-- the steps for what no row serves
+abbrev pub smallest : List Step
+smallest = record { amount = 7500; tier = One } ∷ record { amount = 15000; tier = Two } ∷ record { amount = 25000; tier = Four } ∷ []
 
--- the first of the rows that serves an average daily turnover
-abbrev pub first_serving : List Row → ℕ → Row
-first_serving [] daily = smallest
-first_serving (r ∷ rs) daily = cond (nat_le r.from daily) r (first_serving rs daily)
+-- the steps of the first of the rows that serves an average daily turnover
+abbrev pub first_serving : List Row → ℕ → List Step
+first_serving rows daily = unwrap_or (option_map steps_of (find (λ r. nat_le r.from daily) rows)) smallest

@@ -88,14 +88,12 @@ pub struct AnnexTwo;
 
 /// The first of the rows that serves that average daily turnover, or the smallest where none does.
 fn first_serving(rows: &[Row], daily: u64) -> Row
-    ensures { result ≡ first_serving rows.now daily }
+    ensures { steps_of result ≡ first_serving rows.now daily }
 {
-    for row in rows {
-        if row.from <= daily {
-            return *row;
-        }
-    }
-    SMALLEST
+    rows.iter()
+        .find(|row| row.from <= daily)
+        .copied()
+        .unwrap_or(SMALLEST)
 }
 
 /// The row that serves an equity of that average daily turnover.
@@ -105,10 +103,12 @@ fn row_for(daily: u64) -> Row
     first_serving(&EQUITIES, daily)
 }
 
+// Two amounts in one row: a `Row` has three.
 /// The tier of an ETF.
 fn etf_tier(turnover: u64) -> Tier
     ensures { result ≡ highest etfs turnover }
 {
+    // An ETF has two amounts, and a `Row` has three.
     let euro = turnover / UNITS;
     if euro >= 50_000_000 {
         Tier::Three

@@ -1,7 +1,10 @@
 //! Making a flat schedule, and the tiers that it gives.
-ghost use Rattle.std.specs.Prelude.{◌≡◌, IfOk, Some, None, MatchResult};
+ghost use Rattle.std.specs.Prelude.{◌≡◌, [], ◌∷◌};
+ghost use Rattle.std.specs.List.{list_all};
+ghost use Rattle.std.specs.Result.{result_map_both};
+ghost use Rattle.refusal.specs.Grounds.{unless};
 ghost use Rattle.deferral.specs.Amounts.{highest};
-ghost use Rattle.deferral.specs.Flat.{in_range, flat_ground, flat_steps};
+ghost use Rattle.deferral.specs.Flat.{in_range, flat_ground, flat_steps, amounts_of};
 ghost use Rattle.deferral.specs.Highest.{highest_rises};
 
 use super::flat::Flat;
@@ -17,22 +20,24 @@ const LARGEST: u64 = 100_000_000_000;
 fn is_in_range(amount: u64) -> bool
     ensures { result ≡ in_range amount }
 {
-    1 <= amount && amount <= LARGEST
+    (1..=LARGEST).contains(&amount)
+}
+
+fn are_in_range(amounts: &[u64]) -> bool
+    ensures { result ≡ list_all in_range amounts.now }
+{
+    amounts.iter().all(|amount| is_in_range(*amount))
 }
 
 impl Flat {
     /// The schedule of four amounts in EUR, for tiers 1 to 4.
     pub fn new(first: u64, second: u64, third: u64, fourth: u64) -> Result<Flat, Refusal>
-        ensures ground { MatchResult result (λ _. flat_ground first second third fourth ≡ None) (λ e. flat_ground first second third fourth ≡ Some e) }
-        ensures made { IfOk result (λ f. (f.first ≡ first) × (f.second ≡ second) × (f.third ≡ third) × (f.fourth ≡ fourth)) }
+        ensures { result_map_both amounts_of (λ e. e) result ≡ unless (flat_ground first second third fourth) (first ∷ second ∷ third ∷ fourth ∷ []) }
     {
-        if !is_in_range(first)
-            || !is_in_range(second)
-            || !is_in_range(third)
-            || !is_in_range(fourth)
-        {
+        if !are_in_range(&[first, second, third, fourth]) {
             return Err(Refusal::AmountOutOfRange);
         }
+        // Three comparisons: what `is_sorted` says of four amounts is not found without a lemma for lists of four.
         if first > second || second > third || third > fourth {
             return Err(Refusal::AmountsFall);
         }
@@ -51,6 +56,7 @@ impl Schedule for Flat {
     ghost rises = { λ s q r alike h. highest_rises (flat_steps s.first s.second s.third s.fourth) q.turnover r.turnover h };
 
     fn tier_of(&self, question: Question) -> Tier {
+        // Four amounts and four tiers, where a `Row` has three and a last tier of its own: one chain for both would read a list of steps.
         let euro = question.turnover / UNITS;
         if euro < self.first {
             Tier::Zero

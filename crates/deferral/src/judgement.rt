@@ -1,6 +1,6 @@
 //! A trade judged at the clock.
 ghost use Rattle.std.specs.Prelude.{◌≡◌, [], ◌∷◌};
-ghost use Rattle.refusal.specs.Grounds.{first_ground};
+ghost use Rattle.refusal.specs.Grounds.{first_ground, unless};
 ghost use Rattle.deferral.specs.Judged.{is_size, size_ground, turnover_ground, turnover as trade_turnover, trade_tier, judged_in, judged, LargerNeverEarlier};
 
 use super::opened::{Opened, open_clock_day};
@@ -22,23 +22,23 @@ const LARGEST_TURNOVER: u64 = 1_000_000_000_000_000;
 pub fn is_size(number: u64) -> bool
     ensures { result ≡ is_size number }
 {
-    1 <= number && number <= LARGEST_SIZE
+    (1..=LARGEST_SIZE).contains(&number)
 }
 
-/// The first ground against a price and a quantity: one of them is not allowed, then their turnover is too large.
-pub fn sizes_ground(price: u64, quantity: u64) -> Option<Refusal>
-    ensures { result ≡ first_ground (size_ground price quantity ∷ turnover_ground price quantity ∷ []) }
+/// Refuses a price and a quantity where one of them is not allowed, then where their turnover is too large.
+pub fn check_sizes(price: u64, quantity: u64) -> Result<(), Refusal>
+    ensures { result ≡ unless (first_ground (size_ground price quantity ∷ turnover_ground price quantity ∷ [])) tt }
 {
     if !is_size(price) || !is_size(quantity) {
-        return Some(Refusal::PriceOrQuantity);
+        return Err(Refusal::PriceOrQuantity);
     }
-    match price.checked_mul(quantity) {
-        Some(turnover) => if turnover <= LARGEST_TURNOVER {
-            None
-        } else {
-            Some(Refusal::TurnoverTooLarge)
-        },
-        None => Some(Refusal::TurnoverTooLarge),
+    let turnover = price
+        .checked_mul(quantity)
+        .ok_or(Refusal::TurnoverTooLarge)?;
+    if turnover <= LARGEST_TURNOVER {
+        Ok(())
+    } else {
+        Err(Refusal::TurnoverTooLarge)
     }
 }
 
@@ -71,29 +71,13 @@ impl Opened {
         if !self.is_open_at(clock) {
             return Err(Refusal::MarketClosed);
         }
-        if let Some(refusal) = sizes_ground(trade.price, trade.quantity) {
-            return Err(refusal);
-        }
-        let Some(deadlines) = self.deadlines_for(clock, trade.execution) else {
-            return Err(Refusal::ExecutionMoment);
-        };
+        check_sizes(trade.price, trade.quantity)?;
+        let deadlines = self
+            .deadlines_for(clock, trade.execution)
+            .ok_or(Refusal::ExecutionMoment)?;
         let tier = tier_for(schedule, trade, trade.price.saturating_mul(trade.quantity));
         let moment = publication_moment(&deadlines, clock, trade.execution, tier);
         Ok(Publication { tier, moment })
-    }
-}
-
-fn judge_at<C: Calendar, S: Schedule>(
-    calendar: &C,
-    schedule: &S,
-    clock: u64,
-    trade: &Trade,
-) -> Result<Publication, Refusal>
-    ensures { result ≡ judged (C.meaning calendar.now) (S.tier schedule.now) clock trade.now }
-{
-    match open_clock_day(calendar, clock) {
-        Ok(opened) => opened.judge(schedule, clock, trade),
-        Err(refusal) => Err(refusal),
     }
 }
 
@@ -107,5 +91,5 @@ pub fn judge_trade<C: Calendar, S: Schedule>(
     ensures answer { result ≡ judged (C.meaning calendar.now) (S.tier schedule.now) clock trade.now }
     ensures later { LargerNeverEarlier (C.meaning calendar.now) (S.tier schedule.now) }
 {
-    judge_at(calendar, schedule, clock, trade)
+    open_clock_day(calendar, clock)?.judge(schedule, clock, trade)
 }

@@ -1,6 +1,9 @@
 //! A trading day that is opened, with its neighbours.
-ghost use Rattle.std.specs.Prelude.{◌≡◌};
-ghost use Rattle.deferral.specs.Deadlines.{day_of, noted, opened, open_at, deadlines_for};
+ghost use Rattle.std.specs.Prelude.{◌≡◌, cond, Some, None};
+ghost use Rattle.std.specs.Option.{option_map};
+ghost use Rattle.calendar.specs.Meaning.{trading};
+ghost use Rattle.calendar.specs.Trading.{next_trading_day, previous_trading_day};
+ghost use Rattle.deferral.specs.Deadlines.{day_of, timed, noted, opened, open_at, deadlines_for};
 
 use super::deadlines::Deadlines;
 use calendar::calendar::Calendar;
@@ -26,22 +29,51 @@ fn day_of(moment: u64) -> u64
     moment / DAY
 }
 
-/// Notes a day with its neighbours and the hours of all three.
-fn noted(day: u32, previous: u32, next: u32, hours: Hours, before: Hours, after: Hours) -> Opened
-    ensures { result ≡ noted day previous next hours before after }
+/// A trading day and its hours.
+#[derive(Clone, Copy)]
+struct TradingDay {
+    number: u32,
+    hours: Hours,
+}
+
+/// The day with its hours, where it is a known trading day.
+fn trading_day<C: Calendar>(calendar: &C, number: u32) -> Option<TradingDay>
+    ensures { result ≡ cond (trading (C.meaning calendar.now) number) (Some (timed (C.meaning calendar.now) number)) None }
+{
+    let hours = hours_of(calendar, number)?;
+    Some(TradingDay { number, hours })
+}
+
+/// The trading day before, with its hours.
+fn day_before<C: Calendar>(calendar: &C, day: u32) -> Option<TradingDay>
+    ensures { result ≡ option_map (timed (C.meaning calendar.now)) (previous_trading_day (C.meaning calendar.now) day) }
+{
+    trading_day(calendar, previous_trading_day(calendar, day)?)
+}
+
+/// The trading day after, with its hours.
+fn day_after<C: Calendar>(calendar: &C, day: u32) -> Option<TradingDay>
+    ensures { result ≡ option_map (timed (C.meaning calendar.now)) (next_trading_day (C.meaning calendar.now) day) }
+{
+    trading_day(calendar, next_trading_day(calendar, day)?)
+}
+
+/// Notes a day with its neighbours.
+fn noted(day: TradingDay, before: TradingDay, after: TradingDay) -> Opened
+    ensures { result ≡ noted day.number before.number after.number day.hours before.hours after.hours }
 {
     Opened {
-        day,
-        previous,
-        next,
-        hours,
+        day: day.number,
+        previous: before.number,
+        next: after.number,
+        hours: day.hours,
         today: Deadlines {
-            close: hours.close,
-            next: after,
+            close: day.hours.close,
+            next: after.hours,
         },
         before: Deadlines {
-            close: before.close,
-            next: hours,
+            close: before.hours.close,
+            next: day.hours,
         },
     }
 }
@@ -50,32 +82,18 @@ fn noted(day: u32, previous: u32, next: u32, hours: Hours, before: Hours, after:
 pub fn open_day<C: Calendar>(calendar: &C, day: u32) -> Result<Opened, Refusal>
     ensures { result ≡ opened (C.meaning calendar.now) day }
 {
-    let Some(hours) = hours_of(calendar, day) else {
-        return Err(Refusal::NoTradingDay);
-    };
-    let Some(previous) = previous_trading_day(calendar, day) else {
-        return Err(Refusal::NoNeighbour);
-    };
-    let Some(next) = next_trading_day(calendar, day) else {
-        return Err(Refusal::NoNeighbour);
-    };
-    let Some(before) = hours_of(calendar, previous) else {
-        return Err(Refusal::NoNeighbour);
-    };
-    let Some(after) = hours_of(calendar, next) else {
-        return Err(Refusal::NoNeighbour);
-    };
-    Ok(noted(day, previous, next, hours, before, after))
+    let today = trading_day(calendar, day).ok_or(Refusal::NoTradingDay)?;
+    let before = day_before(calendar, day).ok_or(Refusal::NoNeighbour)?;
+    let after = day_after(calendar, day).ok_or(Refusal::NoNeighbour)?;
+    Ok(noted(today, before, after))
 }
 
 /// Opens the day of the clock.
 pub fn open_clock_day<C: Calendar>(calendar: &C, clock: u64) -> Result<Opened, Refusal>
     ensures { result ≡ opened (C.meaning calendar.now) (day_of clock) }
 {
-    match u32::try_from(day_of(clock)) {
-        Ok(day) => open_day(calendar, day),
-        Err(_) => Err(Refusal::NoTradingDay),
-    }
+    let day = u32::try_from(day_of(clock)).map_err(|_| Refusal::NoTradingDay)?;
+    open_day(calendar, day)
 }
 
 impl Opened {

@@ -6,6 +6,7 @@ use deferral::annex::AnnexTwo;
 use deferral::judgement::judge_trade;
 use deferral::question::Class;
 use deferral::trade::Trade;
+use refusal::Refusal;
 
 fn at(year: u32, month: Month, day: u32, hour: u64, minute: u64) -> u64 {
     day_number(year, month, day)
@@ -27,20 +28,15 @@ fn trade(daily: u64, quantity: u64, execution: u64) -> Trade {
     }
 }
 
-/// The moment at which the trade may be seen, or 0 where it is refused.
-fn moment(clock: u64, trade: Trade) -> u64 {
-    match judge_trade(&RuleCalendar, &AnnexTwo, clock, &trade) {
-        Ok(publication) => publication.moment,
-        Err(_) => 0,
-    }
+/// The moment at which the trade may be seen.
+fn moment(clock: u64, trade: Trade) -> Result<u64, Refusal> {
+    judge_trade(&RuleCalendar, &AnnexTwo, clock, &trade).map(|publication| publication.moment)
 }
 
-/// The number of the ground, or 0 where there is none.
-fn ground(clock: u64, trade: Trade) -> u8 {
-    match judge_trade(&RuleCalendar, &AnnexTwo, clock, &trade) {
-        Ok(_) => 0,
-        Err(refusal) => refusal.number(),
-    }
+/// The number of the ground, where there is one.
+fn ground(clock: u64, trade: Trade) -> Option<u8> {
+    let refusal = moment(clock, trade).err()?;
+    Some(refusal.number())
 }
 
 #[test]
@@ -51,21 +47,21 @@ fn one_and_two_hours(rt: HostRuntime) {
             at(2018, Month::May, 8, 10, 0),
             trade(50_000, 15_000, execution),
         ),
-        at(2018, Month::May, 8, 10, 59)
+        Ok(at(2018, Month::May, 8, 10, 59))
     );
     assert_eq!(rt;
         moment(
             at(2018, Month::May, 8, 12, 0),
             trade(50_000, 15_000, execution),
         ),
-        at(2018, Month::May, 8, 12, 0)
+        Ok(at(2018, Month::May, 8, 12, 0))
     );
     assert_eq!(rt;
         moment(
             at(2018, Month::May, 8, 10, 0),
             trade(49_999, 15_000, execution),
         ),
-        at(2018, Month::May, 8, 11, 59)
+        Ok(at(2018, Month::May, 8, 11, 59))
     );
     let agency = Trade {
         deferrable: false,
@@ -73,7 +69,7 @@ fn one_and_two_hours(rt: HostRuntime) {
     };
     assert_eq!(rt;
         moment(at(2018, Month::May, 8, 10, 0), agency),
-        at(2018, Month::May, 8, 10, 0)
+        Ok(at(2018, Month::May, 8, 10, 0))
     );
 }
 
@@ -83,15 +79,15 @@ fn before_easter(rt: HostRuntime) {
     let late = at(2018, Month::March, 29, 14, 15);
     assert_eq!(rt;
         moment(late, trade(60_000, 50_000, early)),
-        at(2018, Month::March, 29, 16, 15)
+        Ok(at(2018, Month::March, 29, 16, 15))
     );
     assert_eq!(rt;
         moment(late, trade(60_000, 50_000, late)),
-        at(2018, Month::April, 3, 10, 55)
+        Ok(at(2018, Month::April, 3, 10, 55))
     );
     assert_eq!(rt;
         moment(late, trade(40_000, 25_000, early)),
-        at(2018, Month::April, 3, 16, 15)
+        Ok(at(2018, Month::April, 3, 16, 15))
     );
 }
 
@@ -101,16 +97,16 @@ fn half_days(rt: HostRuntime) {
     let late = at(2018, Month::December, 24, 11, 15);
     assert_eq!(rt;
         moment(late, trade(60_000, 50_000, early)),
-        at(2018, Month::December, 24, 13, 15)
+        Ok(at(2018, Month::December, 24, 13, 15))
     );
     assert_eq!(rt;
         moment(late, trade(60_000, 50_000, late)),
-        at(2018, Month::December, 27, 11, 55)
+        Ok(at(2018, Month::December, 27, 11, 55))
     );
     let before = at(2018, Month::December, 21, 16, 0);
     assert_eq!(rt;
         moment(before, trade(40_000, 25_000, before)),
-        at(2018, Month::December, 24, 13, 15)
+        Ok(at(2018, Month::December, 24, 13, 15))
     );
 }
 
@@ -119,16 +115,16 @@ fn changes_of_the_clock(rt: HostRuntime) {
     let spring = at(2018, Month::March, 23, 16, 0);
     assert_eq!(rt;
         moment(spring, trade(60_000, 50_000, spring)),
-        at(2018, Month::March, 26, 10, 55)
+        Ok(at(2018, Month::March, 26, 10, 55))
     );
     let autumn = at(2018, Month::October, 26, 15, 0);
     assert_eq!(rt;
         moment(autumn, trade(60_000, 50_000, autumn)),
-        at(2018, Month::October, 29, 11, 55)
+        Ok(at(2018, Month::October, 29, 11, 55))
     );
     assert_eq!(rt;
         moment(autumn, trade(40_000, 25_000, autumn)),
-        at(2018, Month::October, 29, 17, 15)
+        Ok(at(2018, Month::October, 29, 17, 15))
     );
 }
 
@@ -138,46 +134,58 @@ fn executed_on_the_trading_day_before(rt: HostRuntime) {
     let clock = at(2018, Month::April, 3, 9, 0);
     assert_eq!(rt;
         moment(clock, trade(60_000, 50_000, execution)),
-        at(2018, Month::April, 3, 10, 55)
+        Ok(at(2018, Month::April, 3, 10, 55))
     );
-    assert_eq!(rt; moment(clock, trade(60_000, 15_000, execution)), clock);
+    assert_eq!(rt; moment(clock, trade(60_000, 15_000, execution)), Ok(clock));
     assert_eq!(rt;
         ground(
             clock,
             trade(60_000, 50_000, at(2018, Month::March, 28, 16, 0)),
         ),
-        17
+        Some(17)
     );
     assert_eq!(rt;
         ground(
             clock,
             trade(60_000, 50_000, at(2018, Month::March, 30, 9, 0)),
         ),
-        17
+        Some(17)
     );
 }
 
 #[test]
 fn grounds_in_their_order(rt: HostRuntime) {
     let clock = at(2018, Month::May, 8, 10, 0);
-    assert_eq!(rt; ground(at(2018, Month::May, 6, 10, 0), trade(0, 0, 0)), 8);
+    assert_eq!(rt;
+        ground(at(2018, Month::May, 6, 10, 0), trade(0, 0, 0)),
+        Some(8)
+    );
     assert_eq!(rt;
         ground(at(2000, Month::January, 3, 10, 0), trade(0, 0, 0)),
-        9
+        Some(9)
     );
     assert_eq!(rt;
         ground(at(2199, Month::December, 31, 10, 0), trade(0, 0, 0)),
-        9
+        Some(9)
     );
-    assert_eq!(rt; ground(at(2018, Month::May, 8, 5, 29), trade(0, 0, 0)), 11);
-    assert_eq!(rt; ground(at(2018, Month::May, 8, 16, 15), trade(0, 0, 0)), 11);
-    assert_eq!(rt; ground(clock, trade(0, 0, 0)), 15);
-    assert_eq!(rt; ground(clock, trade(0, 999_999_999, 0)), 17);
+    assert_eq!(rt;
+        ground(at(2018, Month::May, 8, 5, 29), trade(0, 0, 0)),
+        Some(11)
+    );
+    assert_eq!(rt;
+        ground(at(2018, Month::May, 8, 16, 15), trade(0, 0, 0)),
+        Some(11)
+    );
+    assert_eq!(rt; ground(clock, trade(0, 0, 0)), Some(15));
+    assert_eq!(rt; ground(clock, trade(0, 999_999_999, 0)), Some(17));
     let large = Trade {
         price: 1_000_001,
         ..trade(0, 999_999_999, 0)
     };
-    assert_eq!(rt; ground(clock, large), 16);
-    assert_eq!(rt; ground(clock, trade(0, 1, clock.saturating_add(1))), 17);
-    assert_eq!(rt; ground(clock, trade(0, 1, clock)), 0);
+    assert_eq!(rt; ground(clock, large), Some(16));
+    assert_eq!(rt;
+        ground(clock, trade(0, 1, clock.saturating_add(1))),
+        Some(17)
+    );
+    assert_eq!(rt; ground(clock, trade(0, 1, clock)), None);
 }

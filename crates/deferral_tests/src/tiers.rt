@@ -138,33 +138,21 @@ fn check_edge<S: Schedule>(
 fn rows_for_equities(rt: HostRuntime) {
     for row in &ROWS {
         let [first, second, third] = row.amounts;
-        check_edge(
-            &rt,
-            &AnnexTwo,
-            Class::Equity,
-            row.daily,
-            first,
-            Tier::Zero,
-            Tier::One,
-        );
-        check_edge(
-            &rt,
-            &AnnexTwo,
-            Class::Equity,
-            row.daily,
-            second,
-            Tier::One,
-            Tier::Two,
-        );
-        check_edge(
-            &rt,
-            &AnnexTwo,
-            Class::Equity,
-            row.daily,
-            third,
-            Tier::Two,
-            row.top,
-        );
+        for (amount, missed, reached) in [
+            (first, Tier::Zero, Tier::One),
+            (second, Tier::One, Tier::Two),
+            (third, Tier::Two, row.top),
+        ] {
+            check_edge(
+                &rt,
+                &AnnexTwo,
+                Class::Equity,
+                row.daily,
+                amount,
+                missed,
+                reached,
+            );
+        }
     }
     assert_eq!(rt; tier_at(&AnnexTwo, Class::Equity, 0, u64::MAX), Tier::Four);
 }
@@ -193,9 +181,7 @@ fn amounts_for_etfs(rt: HostRuntime) {
 
 #[test]
 fn flat_amounts(rt: HostRuntime) -> Result<(), Fail> {
-    let Ok(flat) = Flat::new(1, 5, 5, 100_000_000_000) else {
-        return Err(Fail::new("refused"));
-    };
+    let flat = Flat::new(1, 5, 5, 100_000_000_000).map_err(|_| Fail::new("refused"))?;
     check_edge(&rt, &flat, Class::Equity, 7, 1, Tier::Zero, Tier::One);
     check_edge(&rt, &flat, Class::Etf, 7, 5, Tier::One, Tier::Three);
     check_edge(

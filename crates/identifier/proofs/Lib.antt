@@ -1,5 +1,1 @@
-mod Fronts
-mod Remainders
 mod Texts
-mod Weights
-mod Words

@@ -1,5 +1,5 @@
 -- What is found of a line: a word that says what the text after it should be, one space, and the text.
-use Rattle.std.specs.Prelude.{ℕ, ◌+◌, ◌-◌, cond, not, List, ◌++◌, length, take, drop, replicate, codes, ◌==◌}
+use Rattle.std.specs.Prelude.{ℕ, ◌+◌, ◌-◌, cond, not, List, ◌++◌, length, take, drop, replicate, codes, Err, Result, ◌==◌}
 use Rattle.std.specs.List.{prefix_len}
 use Rattle.std.specs.Str.{bytes_eq}
 use Rattle.identifier.specs.Characters.{between, is_space}
@@ -7,8 +7,8 @@ use Rattle.identifier.specs.Counterparty.{counterparty_answer}
 use Rattle.identifier.specs.Isin.{isin_answer}
 use Rattle.identifier.specs.declared.counterparty.Counterparty.TheVariants.{Lei, Code}
 use Rattle.identifier.specs.Verdict.{verdict_of}
-use Rattle.identifier.specs.declared.verdict.Verdict.{Verdict}
-use Rattle.identifier.specs.declared.verdict.Verdict.TheVariants.{WrongLength, WrongWord}
+use Rattle.identifier.specs.declared.flaw.Flaw.{Flaw}
+use Rattle.identifier.specs.declared.flaw.Flaw.TheVariants.{WrongLength, WrongWord}
 
 -- how many bytes stand before the first space
 abbrev pub word_length : List ℕ → ℕ
@@ -27,24 +27,24 @@ abbrev pub filled_up : ℕ → List ℕ → List ℕ
 filled_up size text = text ++ replicate (size - length text) 32
 
 -- an ISIN has 12 bytes
-abbrev pub isin_verdict : List ℕ → Verdict
-isin_verdict text = cond (length text == 12) (verdict_of (isin_answer text)) WrongLength
+abbrev pub isin_verdict : List ℕ → Result Unit Flaw
+isin_verdict text = cond (length text == 12) (verdict_of (isin_answer text)) (Err WrongLength)
 
 -- an LEI has 20 bytes
-abbrev pub lei_verdict : List ℕ → Verdict
-lei_verdict text = cond (length text == 20) (verdict_of (counterparty_answer (Lei text))) WrongLength
+abbrev pub lei_verdict : List ℕ → Result Unit Flaw
+lei_verdict text = cond (length text == 20) (verdict_of (counterparty_answer (Lei text))) (Err WrongLength)
 
 -- a personal code has 1 to 20 bytes
-abbrev pub code_verdict : List ℕ → Verdict
-code_verdict text = cond (between 1 20 (length text)) (verdict_of (counterparty_answer (Code (filled_up 20 text)))) WrongLength
+abbrev pub code_verdict : List ℕ → Result Unit Flaw
+code_verdict text = cond (between 1 20 (length text)) (verdict_of (counterparty_answer (Code (filled_up 20 text)))) (Err WrongLength)
 
 -- the word says what the text should be
-abbrev pub judged_as : List ℕ → List ℕ → Verdict
+abbrev pub judged_as : List ℕ → List ℕ → Result Unit Flaw
 judged_as word text =
     cond (bytes_eq word (codes "ISIN")) (isin_verdict text)
     (cond (bytes_eq word (codes "LEI")) (lei_verdict text)
-    (cond (bytes_eq word (codes "CODE")) (code_verdict text) WrongWord))
+    (cond (bytes_eq word (codes "CODE")) (code_verdict text) (Err WrongWord)))
 
 -- what is found of a line
-abbrev pub judged : List ℕ → Verdict
+abbrev pub judged : List ℕ → Result Unit Flaw
 judged line = judged_as (word_of line) (text_of line)

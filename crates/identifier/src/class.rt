@@ -37,19 +37,14 @@ impl Class {
         ensures value { result ≡ prefix_len (belongs self) text.now }
         ensures bound { result ≤ length text.now }
     {
-        for (i, byte) in text.iter().enumerate() {
-            if !self.has(*byte) {
-                return i;
-            }
-        }
-        text.len()
+        text.iter().take_while(|byte| self.has(**byte)).count()
     }
 
     /// Whether each byte of the text is of the class.
     pub(crate) fn has_all(self, text: &[u8]) -> bool
         ensures { result ≡ list_all (belongs self) text.now }
     {
-        self.front(text) == text.len()
+        text.iter().all(|byte| self.has(*byte))
     }
 }
 

@@ -4,14 +4,13 @@ ghost use Rattle.identifier.specs.Counterparty.{is_code, is_right, counterparty_
 
 use crate::class::Class;
 use crate::lei::is_lei;
-use crate::same::same_bytes;
 use refusal::Refusal;
 
 /// How many bytes name a counterparty.
 pub(crate) const PARTY_LENGTH: usize = 20;
 
 /// What a report names the other party by, with its twenty bytes, right or wrong.
-#[derive(Clone, Copy, Debug)]
+#[derive(Clone, Copy, PartialEq, Eq, Debug)]
 pub enum Counterparty {
     /// A legal entity identifier.
     Lei([u8; PARTY_LENGTH]),
@@ -20,6 +19,7 @@ pub enum Counterparty {
 }
 
 impl Counterparty {
+    // No `From`: letter and bytes come apart.
     /// The counterparty of the kind that the letter says, `N` or `D`; none for another letter.
     pub fn with_letter(letter: u8, bytes: [u8; PARTY_LENGTH]) -> Option<Counterparty>
         ensures { result ≡ with_letter letter bytes }
@@ -53,6 +53,7 @@ impl Counterparty {
     }
 
     /// Whether the bytes are what they stand for.
+    #[tactic(auto, unfolding(crate::specs::Counterparty::is_right))]
     fn is_right(&self) -> bool
         ensures { result ≡ is_right self.now }
     {
@@ -66,12 +67,7 @@ impl Counterparty {
     pub fn same(&self, other: &Counterparty) -> bool
         ensures { Decides result (self.now ≡ other.now) }
     {
-        match (self, other) {
-            (Counterparty::Lei(mine), Counterparty::Lei(theirs)) => same_bytes(mine, theirs),
-            (Counterparty::Code(mine), Counterparty::Code(theirs)) => same_bytes(mine, theirs),
-            (Counterparty::Lei(_), Counterparty::Code(_)) => false,
-            (Counterparty::Code(_), Counterparty::Lei(_)) => false,
-        }
+        self == other
     }
 }
 

@@ -5,14 +5,13 @@ ghost use Rattle.identifier.specs.Isin.{closes, is_isin, isin_answer};
 
 use crate::class::{Class, value_of};
 use crate::luhn::payload_sum;
-use crate::same::same_bytes;
 use refusal::Refusal;
 
 /// How many bytes an ISIN has.
-pub(crate) const ISIN_LENGTH: usize = 12;
+const ISIN_LENGTH: usize = 12;
 
 /// Twelve bytes that stand where an ISIN is expected, right or wrong.
-#[derive(Clone, Copy, Debug)]
+#[derive(Clone, Copy, PartialEq, Eq, Debug)]
 pub struct Isin {
     pub bytes: [u8; ISIN_LENGTH],
 }
@@ -34,7 +33,7 @@ impl Isin {
         ensures value { result ≡ bytes_eq self.now.bytes other.now.bytes }
         ensures cases { Decides result (self.now.bytes ≡ other.now.bytes) }
     {
-        same_bytes(&self.bytes, &other.bytes)
+        self == other
     }
 }
 
@@ -46,6 +45,7 @@ fn closes(payload: &[u8], check: u8) -> bool
 }
 
 /// Whether the text is an ISIN.
+#[tactic(auto, unfolding(crate::specs::Isin::is_isin))]
 fn is_isin(text: &[u8; ISIN_LENGTH]) -> bool
     ensures { result ≡ is_isin text.now }
 {

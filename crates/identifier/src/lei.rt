@@ -31,6 +31,7 @@ fn left_of(dividend: u32) -> u32
 }
 
 /// The remainder of a number after one more character on its right, from the remainder before.
+#[tactic(auto, using(crate::proofs::Texts::kept_after))]
 fn remainder_after(remainder: u32, byte: u8) -> u32
     requires { remainder < 97 }
     ensures { (ds : List ℕ) → remainder ≡ number_from_digits 10 ds % 97 → result ≡ number_from_digits 10 (ds ++ digits_of byte) % 97 }
@@ -54,7 +55,7 @@ fn has_check_number(text: &[u8; PARTY_LENGTH]) -> bool
     ensures { result ≡ between 2 98 (check_number text.now) }
 {
     let check = 10 * u32::from(value_of(text[18])) + u32::from(value_of(text[19]));
-    LEAST_CHECK <= check && check <= LARGEST_CHECK
+    (LEAST_CHECK..=LARGEST_CHECK).contains(&check)
 }
 
 /// Whether the text is an LEI.

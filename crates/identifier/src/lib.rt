@@ -4,16 +4,17 @@
 mod class;
 mod counterparty;
 mod examples;
+mod flaw;
 mod isin;
 mod lei;
 mod line;
 mod luhn;
 mod member;
-mod same;
 mod verdict;
 
 pub use counterparty::Counterparty;
 pub use examples::examples_stand;
+pub use flaw::Flaw;
 pub use isin::Isin;
 pub use line::judge;
 pub use member::Member;

@@ -1,12 +1,12 @@
 //! Lines that ask for a check: a word that says what the text after it should be, one space, and the text.
-ghost use Rattle.std.specs.Prelude.{◌≡◌, ◌≤◌, length};
+ghost use Rattle.std.specs.Prelude.{◌≡◌, ◌≤◌, ◌==◌, length, Ok, Err, if◌then◌else◌};
+ghost use Rattle.identifier.specs.declared.flaw.Flaw.TheVariants.{WrongLength};
 ghost use Rattle.identifier.specs.Line.{filled_up, isin_verdict, lei_verdict, code_verdict, judged_as, judged, word_of, text_of};
 
 use crate::class::Class;
 use crate::counterparty::{Counterparty, PARTY_LENGTH};
-use crate::isin::{ISIN_LENGTH, Isin};
-use crate::same::same_bytes;
-use crate::verdict::Verdict;
+use crate::flaw::Flaw;
+use crate::isin::Isin;
 
 /// The text, then spaces.
 fn filled_up(text: &[u8]) -> [u8; PARTY_LENGTH]
@@ -18,48 +18,50 @@ fn filled_up(text: &[u8]) -> [u8; PARTY_LENGTH]
     bytes
 }
 
+/// The text as an array, where it has just so many bytes.
+fn exactly<const N: usize>(text: &[u8]) -> Result<[u8; N], Flaw>
+    ensures { result ≡ (if length text.now == N then Ok text.now else Err WrongLength) }
+{
+    <[u8; N]>::try_from(text).map_err(|_| Flaw::WrongLength)
+}
+
 /// Judges a text that should be an ISIN.
-fn judge_isin(text: &[u8]) -> Verdict
+fn judge_isin(text: &[u8]) -> Result<(), Flaw>
     ensures { result ≡ isin_verdict text.now }
 {
-    match <[u8; ISIN_LENGTH]>::try_from(text) {
-        Ok(bytes) => Verdict::of(Isin { bytes }.check()),
-        Err(_) => Verdict::WrongLength,
-    }
+    let bytes = exactly(text)?;
+    Isin { bytes }.check()?;
+    Ok(())
 }
 
 /// Judges a text that should be an LEI.
-fn judge_lei(text: &[u8]) -> Verdict
+fn judge_lei(text: &[u8]) -> Result<(), Flaw>
     ensures { result ≡ lei_verdict text.now }
 {
-    match <[u8; PARTY_LENGTH]>::try_from(text) {
-        Ok(bytes) => Verdict::of(Counterparty::Lei(bytes).check()),
-        Err(_) => Verdict::WrongLength,
-    }
+    Counterparty::Lei(exactly(text)?).check()?;
+    Ok(())
 }
 
 /// Judges a text that should be a personal code.
-fn judge_code(text: &[u8]) -> Verdict
+fn judge_code(text: &[u8]) -> Result<(), Flaw>
     ensures { result ≡ code_verdict text.now }
 {
     if text.is_empty() || text.len() > PARTY_LENGTH {
-        return Verdict::WrongLength;
+        return Err(Flaw::WrongLength);
     }
-    Verdict::of(Counterparty::Code(filled_up(text)).check())
+    Counterparty::Code(filled_up(text)).check()?;
+    Ok(())
 }
 
 /// Judges a text by the word before it.
-fn judge_as(word: &[u8], text: &[u8]) -> Verdict
+fn judge_as(word: &[u8], text: &[u8]) -> Result<(), Flaw>
     ensures { result ≡ judged_as word.now text.now }
 {
-    if same_bytes(word, b"ISIN") {
-        judge_isin(text)
-    } else if same_bytes(word, b"LEI") {
-        judge_lei(text)
-    } else if same_bytes(word, b"CODE") {
-        judge_code(text)
-    } else {
-        Verdict::WrongWord
+    match word {
+        b"ISIN" => judge_isin(text),
+        b"LEI" => judge_lei(text),
+        b"CODE" => judge_code(text),
+        _ => Err(Flaw::WrongWord),
     }
 }
 
@@ -68,15 +70,12 @@ fn split_word(line: &[u8]) -> (&[u8], &[u8])
     ensures word { result.0.now ≡ word_of line.now }
     ensures text { result.1.now ≡ text_of line.now }
 {
-    let (word, rest) = line.split_at(Class::Solid.front(line));
-    match rest {
-        [] => (word, rest),
-        [_, text @ ..] => (word, text),
-    }
+    let end = Class::Solid.front(line);
+    (&line[..end], line.get(end + 1..).unwrap_or(&[]))
 }
 
 /// Judges a line: whether the text after its first word is what the word says.
-pub fn judge(line: &[u8]) -> Verdict
+pub fn judge(line: &[u8]) -> Result<(), Flaw>
     ensures { result ≡ judged line.now }
 {
     let (word, text) = split_word(line);

@@ -2,10 +2,8 @@
 ghost use Rattle.std.specs.Prelude.{◌≡◌, Decides};
 ghost use Rattle.std.specs.Str.{bytes_eq};
 
-use crate::same::same_bytes;
-
 /// The code of a member firm: any five bytes.
-#[derive(Clone, Copy, Debug)]
+#[derive(Clone, Copy, PartialEq, Eq, Debug)]
 pub struct Member {
     pub bytes: [u8; 5],
 }
@@ -16,6 +14,6 @@ impl Member {
         ensures value { result ≡ bytes_eq self.now.bytes other.now.bytes }
         ensures cases { Decides result (self.now.bytes ≡ other.now.bytes) }
     {
-        same_bytes(&self.bytes, &other.bytes)
+        self == other
     }
 }

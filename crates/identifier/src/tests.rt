@@ -1,5 +1,5 @@
 //! Published identifiers, and what is not one.
-use crate::{Counterparty, Isin, Member, judge};
+use crate::{Counterparty, Isin, Member, Verdict, judge};
 use refusal::Refusal;
 use std::alloc::Global;
 use std::process::Abort;
@@ -18,7 +18,7 @@ fn is_wrong(party: Counterparty) -> bool {
 }
 
 fn found(rt: &impl Abort, heap: Global, line: &[u8], words: &str) -> Result<(), Fail> {
-    let verdict = judge(line);
+    let verdict = Verdict(judge(line));
     assert_eq!(rt; format!(in heap; "{verdict}")?.as_str(), words);
     Ok(())
 }

@@ -1,16 +1,17 @@
 -- The codes of held days: which there are, that they are apart, and at which index each stands.
-use Rattle.std.proofs.Common.{◌≡◌, ℕ, zero, suc, ◌+◌, ◌-◌, ◌^◌, ◌<◌, ◌≤◌, min, true, false, ◌||◌, eqb, ltb, List, [], ◌∷◌, ◌++◌, map, length, get_or, Some, None, Option, sym, refl, ap, ◌∙◌, inl, inr, arith}
+use Rattle.std.proofs.Common.{◌≡◌, ℕ, zero, suc, ◌+◌, ◌-◌, ◌^◌, ◌<◌, ◌≤◌, min, true, false, ◌||◌, eqb, ltb, List, [], ◌∷◌, ◌++◌, map, length, get_or, Some, None, Option, sym, refl, ap, ◌∙◌, arith}
 use Rattle.std.specs.List.{range_with_len, AllByRecursion as All}
 use Rattle.std.proofs.ByRecursion.{All-get_or, All-append, All-map, All-weaker, All-from_get_or}
 use Rattle.std.proofs.lemmas.List.{length-append, get_or_append_left, get_or-append-add}
 use Rattle.std.proofs.lemmas.List.FromFn.{length-map-range_with_len, get_or-map-range_with_len, map-range_with_len_more}
-use Rattle.std.proofs.lemmas.Bool.{both_ways, eqb-true, eqb-false, eq-eqb, ne_eqb, ltb-true, ltb-false, and_left, and_right, and_from, or_cases, or_parts, cond_both}
+use Rattle.std.proofs.lemmas.Bool.{both_ways, and_parts, eqb-true, eqb-false, ltb-false, or_parts, cond_both}
 use Rattle.std.proofs.lemmas.Bool.Decides.{nat_tests}
 use Rattle.report.specs.declared.report.Code.{Code}
 use Rattle.rulebook.specs.Lists.{first_of, numbers, and_then}
 use Rattle.rulebook.specs.Notebook.{same_code}
-use Rattle.ledger.specs.declared.days.HeldDay.{HeldDay}
-use Rattle.ledger.specs.Days.{is_day, place_in, index_in, code_in, with_next}
+use Rattle.ledger.specs.declared.held_day.HeldDay.{HeldDay}
+use Rattle.ledger.specs.HeldDay.{is_day, place_in, code_in, with_next}
+use Rattle.ledger.specs.Days.{index_in}
 use Rattle.ledger.specs.Filed.{codes_of, all_codes, Apart, Begin, Later, Falling}
 
 -- ---- numbers, one after another
@@ -19,35 +20,23 @@ numbers_are : (first n : ℕ) → numbers first n ≡ range_with_len first n
 numbers_are first zero = refl
 numbers_are first (suc n) = ap (λ l. first ∷ l) (numbers_are (first + 1) n)
 
-numbers_from : (first n : ℕ) → All (λ s. first ≤ s) (numbers first n)
-numbers_from first zero = tt
-numbers_from first (suc n) =
-    (omega arith, All-weaker (λ s. first + 1 ≤ s) (λ s. first ≤ s) (λ s h. omega arith) (numbers (first + 1) n) (numbers_from (first + 1) n))
-
-numbers_below : (first n : ℕ) → All (λ s. s < first + n) (numbers first n)
-numbers_below first zero = tt
-numbers_below first (suc n) =
-    (omega arith, All-weaker (λ s. s < first + 1 + n) (λ s. s < first + suc n) (λ s h. omega arith) (numbers (first + 1) n) (numbers_below (first + 1) n))
+numbers_within : (first n : ℕ) → All (λ s. (first ≤ s) × (s < first + n)) (numbers first n)
+numbers_within first zero = tt
+numbers_within first (suc n) =
+    ((omega arith, omega arith), All-weaker (λ s. (first + 1 ≤ s) × (s < first + 1 + n)) (λ s. (first ≤ s) × (s < first + suc n)) (λ s h. (omega arith, omega arith)) (numbers (first + 1) n) (numbers_within (first + 1) n))
 
 -- ---- codes that are the same, and that are not
 
 pub code_from_parts : (a b : Code) → a.day ≡ b.day → a.serial ≡ b.serial → a ≡ b
-code_from_parts a b d s =
-    let with_day : ℕ → Code = λ day. record { day = day; serial = a.serial } in
-    let with-serial : ℕ → Code = λ serial. record { day = b.day; serial = serial } in
-    ap with_day d ∙ ap with-serial s
+code_from_parts a b d s = λ i. record { day = d i; serial = s i }
+
+pub code_from_same : (a b : Code) → same_code a b ≡ true → a ≡ b
+code_from_same a b e =
+    let parts = and_parts (eqb a.day b.day) (eqb a.serial b.serial) e in
+    code_from_parts a b (eqb-true a.day b.day parts.0) (eqb-true a.serial b.serial parts.1)
 
 pub same_from_is : (a b : Code) → a ≡ b → same_code a b ≡ true
-same_from_is a b e = and_from (eqb a.day b.day) (eqb a.serial b.serial) (eq-eqb a.day b.day (ap (λ c. c.day) e)) (eq-eqb a.serial b.serial (ap (λ c. c.serial) e))
-
-pub same_turned : (a b : Code) → same_code a b ≡ same_code b a
-same_turned a b = grind (arith, nat_tests)
-
-other_day : (a b : Code) → (a.day ≡ b.day → ⊥) → same_code a b ≡ false
-other_day a b h = and_left (eqb a.day b.day) (eqb a.serial b.serial) (ne_eqb a.day b.day h)
-
-other_serial : (a b : Code) → (a.serial ≡ b.serial → ⊥) → same_code a b ≡ false
-other_serial a b h = and_right (eqb a.day b.day) (eqb a.serial b.serial) (ne_eqb a.serial b.serial h)
+same_from_is a b e = let d : a.day ≡ b.day = ap (λ c. c.day) e in let s : a.serial ≡ b.serial = ap (λ c. c.serial) e in grind (arith, nat_tests, d, s)
 
 -- ---- what holds of all codes
 
@@ -74,11 +63,8 @@ pub each_day : (P : ℕ → Type 0) (hs : List HeldDay) → All (λ h. P h.opene
 each_day P [] p = tt
 each_day P (h ∷ hs) (p, ps) = All-append (λ c. P c.day) (all_codes hs) (codes_of h) (each_day P hs ps) (each_day_in P h p)
 
-each_serial_from : (h : HeldDay) → All (λ c. 1 ≤ c.serial) (codes_of h)
-each_serial_from h = All-map (λ c. 1 ≤ c.serial) (code_in h) (numbers 1 h.taken) (numbers_from 1 h.taken)
-
-each_serial_below : (h : HeldDay) → All (λ c. c.serial < 1 + h.taken) (codes_of h)
-each_serial_below h = All-map (λ c. c.serial < 1 + h.taken) (code_in h) (numbers 1 h.taken) (numbers_below 1 h.taken)
+each_serial : (h : HeldDay) → All (λ c. (1 ≤ c.serial) × (c.serial < 1 + h.taken)) (codes_of h)
+each_serial h = All-map (λ c. (1 ≤ c.serial) × (c.serial < 1 + h.taken)) (code_in h) (numbers 1 h.taken) (numbers_within 1 h.taken)
 
 -- ---- codes are apart
 
@@ -86,7 +72,7 @@ apart_numbers : (h : HeldDay) (first n : ℕ) → Apart (map (code_in h) (number
 apart_numbers h first zero = tt
 apart_numbers h first (suc n) = (
   All-map (λ e. same_code (code_in h first) e ≡ false) (code_in h) (numbers (first + 1) n)
-      (All-weaker (λ s. first + 1 ≤ s) (λ s. same_code (code_in h first) (code_in h s) ≡ false) (λ s l. other_serial (code_in h first) (code_in h s) (λ e. omega arith)) (numbers (first + 1) n) (numbers_from (first + 1) n)),
+      (All-weaker (λ s. (first + 1 ≤ s) × (s < first + 1 + n)) (λ s. same_code (code_in h first) (code_in h s) ≡ false) (λ s l. grind (arith, nat_tests, l.0)) (numbers (first + 1) n) (numbers_within (first + 1) n)),
   apart_numbers h (first + 1) n,
 )
 
@@ -103,7 +89,7 @@ across h hs later =
   where
     each_day_apart : (c : Code) → c.day < h.opened.day → All (λ e. same_code c e ≡ false) (codes_of h)
     each_day_apart c l =
-        All-weaker (λ e. e.day ≡ h.opened.day) (λ e. same_code c e ≡ false) (λ e is. other_day c e (λ same. omega arith)) (codes_of h) (each_day_in (λ day. day ≡ h.opened.day) h refl)
+        All-weaker (λ e. e.day ≡ h.opened.day) (λ e. same_code c e ≡ false) (λ e is. grind (arith, nat_tests, is)) (codes_of h) (each_day_in (λ day. day ≡ h.opened.day) h refl)
 
 pub codes_apart : (hs : List HeldDay) → Falling hs → Apart (all_codes hs)
 codes_apart [] f = tt
@@ -133,10 +119,7 @@ module _ (h : HeldDay) (front : List Code) (code : Code) (day : h.opened.day ≡
     -- serials count from 1 up to how many were taken
     no_serial : (ltb code.serial 1 || ltb h.taken code.serial) ≡ true → All (λ c. same_code c code ≡ false) (codes_of h)
     no_serial e =
-        elim (or_cases (ltb code.serial 1) (ltb h.taken code.serial) e) [
-          | inl low ↦ All-weaker (λ c. 1 ≤ c.serial) (λ c. same_code c code ≡ false) (λ c l. other_serial c code (λ same. omega (arith, ltb-true code.serial 1 low))) (codes_of h) (each_serial_from h)
-          | inr high ↦ All-weaker (λ c. c.serial < 1 + h.taken) (λ c. same_code c code ≡ false) (λ c l. other_serial c code (λ same. omega (arith, ltb-true h.taken code.serial high))) (codes_of h) (each_serial_below h)
-        ]
+        All-weaker (λ c. (1 ≤ c.serial) × (c.serial < 1 + h.taken)) (λ c. same_code c code ≡ false) (λ c l. grind (arith, nat_tests, e, l.0, l.1)) (codes_of h) (each_serial h)
 
     has_serial : 1 ≤ code.serial → code.serial ≤ h.taken → (d : Code) → get_or (front ++ codes_of h) (length front + (code.serial - 1)) d ≡ code
     has_serial low high d =
@@ -165,10 +148,10 @@ indexed (h ∷ hs) code (first, b) (later, f) small =
     cond_both (is_day code.day h) (Some h) (first_of (is_day code.day) hs) (λ o. Indexed (all_codes (h ∷ hs)) code (and_then o (place_in code.serial)))
     (λ e. here (eqb-true h.opened.day code.day e))
     (λ e. indexed_front (all_codes hs) (codes_of h) code (index_in hs code) (indexed hs code b f (omega (arith, length-append (all_codes hs) (codes_of h))))
-    (All-weaker (λ c. c.day ≡ code.day → ⊥) (λ c. same_code c code ≡ false) (λ c other. other_day c code other) (codes_of h) (each_day_in (λ day. day ≡ code.day → ⊥) h (eqb-false h.opened.day code.day e))))
+    (All-weaker (λ c. c.day ≡ code.day → ⊥) (λ c. same_code c code ≡ false) (λ c other. grind (arith, nat_tests, other)) (codes_of h) (each_day_in (λ day. day ≡ code.day → ⊥) h (eqb-false h.opened.day code.day e))))
   where
     here : h.opened.day ≡ code.day → Indexed (all_codes (h ∷ hs)) code (place_in code.serial h)
     here e =
         indexed_in h (all_codes hs) code e
-        (All-weaker (λ c. c.day < h.opened.day) (λ c. same_code c code ≡ false) (λ c l. other_day c code (λ same. omega arith)) (all_codes hs) (each_day (λ day. day < h.opened.day) hs later))
+        (All-weaker (λ c. c.day < h.opened.day) (λ c. same_code c code ≡ false) (λ c l. grind (arith, nat_tests, l, e)) (all_codes hs) (each_day (λ day. day < h.opened.day) hs later))
         first small

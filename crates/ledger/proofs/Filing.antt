@@ -1,5 +1,5 @@
 -- What holds of records that are filed in the order of their codes.
-use Rattle.std.proofs.Common.{◌≡◌, ℕ, zero, suc, ◌+◌, ◌^◌, ◌<◌, Bool, true, false, cond, eqb, List, [], ◌∷◌, ◌++◌, map, length, get_or, take, drop, set, Some, None, filter, Option, sym, refl, ap, ◌∙◌, subst, arith}
+use Rattle.std.proofs.Common.{◌≡◌, ℕ, ◌+◌, ◌^◌, ◌<◌, Bool, true, false, cond, eqb, List, [], ◌∷◌, ◌++◌, map, length, get_or, take, drop, set, Some, None, filter, Option, sym, refl, ap, ◌∙◌, subst, arith}
 use Rattle.std.specs.List.{AllByRecursion as All}
 use Rattle.std.proofs.lemmas.List.Elements.{filter-append}
 use Rattle.std.proofs.ByRecursion.{All-weaker, All-get_or}
@@ -10,11 +10,14 @@ use Rattle.rulebook.specs.declared.record.Record.{Record}
 use Rattle.rulebook.specs.Lists.{first_of}
 use Rattle.rulebook.specs.Notebook.{Notebook, same_code, latest_day, of_day, next_code}
 use Rattle.rulebook.specs.Taken.{changed}
-use Rattle.ledger.specs.declared.days.HeldDay.{HeldDay}
-use Rattle.ledger.specs.Days.{index_in, code_in, has_next, with_next, next_in, counted}
+use Rattle.ledger.specs.declared.held_day.HeldDay.{HeldDay}
+use Rattle.ledger.specs.HeldDay.{code_in, has_next, with_next}
+use Rattle.ledger.specs.Days.{index_in, next_in, counted}
 use Rattle.ledger.specs.Filed.{codes_of, all_codes, record_codes, Apart, Filed, Finds}
 use Rattle.register.proofs.Members.{kept_all, kept_none}
-use Rattle.ledger.proofs.Codes.{apart_index, code_from_parts, same_from_is, same_turned, length_codes, codes_more, each_day, each_day_in, codes_apart, Indexed, indexed}
+use Rattle.ledger.specs.Totalled.{CodesApart}
+use Rattle.ledger.proofs.Changing.{changed_at, changed_none, first_at}
+use Rattle.ledger.proofs.Codes.{apart_index, code_from_parts, code_from_same, same_from_is, length_codes, codes_more, each_day, each_day_in, codes_apart, Indexed, indexed}
 
 all_unmap : {X Y : Type 0} (P : X → Type 0) (f : Y → X) (ys : List Y) → All P (map f ys) → All (λ y. P (f y)) ys
 all_unmap P f [] h = tt
@@ -26,30 +29,6 @@ first_missing : (rs : List Record) (code : Code) → All (λ t. same_code t.code
 first_missing [] code h = refl
 first_missing (t ∷ rs) code (h, hs) = cond-false (same_code t.code code) (Some t) (first_of (λ u. same_code u.code code) rs) h ∙ first_missing rs code hs
 
-changed_missing : (rs : List Record) (code : Code) (f : Record → Record) → All (λ t. same_code t.code code ≡ false) rs → changed code f rs ≡ rs
-changed_missing [] code f h = refl
-changed_missing (t ∷ rs) code f (h, hs) =
-    ap (λ u. u ∷ changed code f rs) (cond-false (same_code t.code code) (f t) t h) ∙ ap (λ l. t ∷ l) (changed_missing rs code f hs)
-
-first_at : (rs : List Record) (i : ℕ) (code : Code) → Apart (record_codes rs) → i < length rs → (d : Record) → (get_or rs i d).code ≡ code → first_of (λ t. same_code t.code code) rs ≡ Some (get_or rs i d)
-first_at [] i code a l d is = absurd (omega arith)
-first_at (t ∷ rs) zero code a l d is = cond-true (same_code t.code code) (Some t) (first_of (λ u. same_code u.code code) rs) (same_from_is t.code code is)
-first_at (t ∷ rs) (suc i) code (h, a) l d is =
-    let l' : i < length rs = omega arith in
-    let other = All-get_or (λ u. same_code t.code u.code ≡ false) rs i d l' (all_unmap (λ e. same_code t.code e ≡ false) (λ u. u.code) rs h) in
-    cond-false (same_code t.code code) (Some t) (first_of (λ u. same_code u.code code) rs) (rw is at other) ∙ first_at rs i code a l' d is
-
-changed_at : (rs : List Record) (i : ℕ) (code : Code) (f : Record → Record) → Apart (record_codes rs) → i < length rs → (d : Record) → (get_or rs i d).code ≡ code → changed code f rs ≡ set rs i (f (get_or rs i d))
-changed_at [] i code f a l d is = absurd (omega arith)
-changed_at (t ∷ rs) zero code f (h, a) l d is =
-    let others : All (λ u. same_code u.code code ≡ false) rs =
-    All-weaker (λ u. same_code t.code u.code ≡ false) (λ u. same_code u.code code ≡ false) (λ u e. same_turned u.code code ∙ ap (λ c. same_code c u.code) (sym is) ∙ e) rs (all_unmap (λ e. same_code t.code e ≡ false) (λ u. u.code) rs h) in
-    ap (λ u. u ∷ changed code f rs) (cond-true (same_code t.code code) (f t) t (same_from_is t.code code is)) ∙ ap (λ l. f t ∷ l) (changed_missing rs code f others)
-changed_at (t ∷ rs) (suc i) code f (h, a) l d is =
-    let l' : i < length rs = omega arith in
-    let other = All-get_or (λ u. same_code t.code u.code ≡ false) rs i d l' (all_unmap (λ e. same_code t.code e ≡ false) (λ u. u.code) rs h) in
-    ap (λ u. u ∷ changed code f rs) (cond-false (same_code t.code code) (f t) t (rw is at other)) ∙ ap (λ l. t ∷ l) (changed_at rs i code f a l' d is)
-
 module _ (hs : List HeldDay) (rs : List Record) (filed : Filed hs rs) where
   pub records_apart : Apart (record_codes rs)
   records_apart = subst Apart (sym filed.codes) (codes_apart hs filed.falling)
@@ -57,29 +36,32 @@ module _ (hs : List HeldDay) (rs : List Record) (filed : Filed hs rs) where
   pub length_filed : length rs ≡ length (all_codes hs)
   length_filed = sym (length-map rs (λ t. t.code)) ∙ ap length filed.codes
 
-  finds_from : (code : Code) (o : Option ℕ) → Indexed (all_codes hs) code o → Finds rs code o
-  finds_from code None none =
-      let other = all_unmap (λ c. same_code c code ≡ false) (λ t. t.code) rs (subst (All (λ c. same_code c code ≡ false)) (sym filed.codes) none) in
-      record { none = other; found = first_missing rs code other; changes = λ f. changed_missing rs code f other }
-  finds_from code (Some i) (l, is) =
-      let l' : i < length rs = omega (arith, length_filed) in
-      let at : (d : Record) → (get_or rs i d).code ≡ code = λ d. sym (get_or-map (λ t. t.code) rs i d code l') ∙ ap (λ cs. get_or cs i code) filed.codes ∙ is code in
-      record {
-        within = l';
-        has_code = at;
-        found = λ d. first_at rs i code records_apart l' d (at d);
-        changes = λ f d. changed_at rs i code f records_apart l' d (at d);
-      }
-
-  pub finds : length rs < 2 ^ 64 → (code : Code) → Finds rs code (index_in hs code)
-  finds small code = finds_from code (index_in hs code) (indexed hs code filed.begin filed.falling (omega (arith, length_filed)))
-
   -- records of one code stand at one index
   pub one_index : (i j : ℕ) (d : Record) → i < length rs → j < length rs → (get_or rs i d).code ≡ (get_or rs j d).code → i ≡ j
   one_index i j d l m e =
       let long = length-map rs (λ t. t.code) in
       apart_index (record_codes rs) i j d.code records_apart (omega arith) (omega arith)
       (get_or-map (λ t. t.code) rs i d d.code l ∙ e ∙ sym (get_or-map (λ t. t.code) rs j d d.code m))
+
+  apart : CodesApart rs
+  apart i j d l m e = one_index i j d l m (code_from_same (get_or rs i d).code (get_or rs j d).code e)
+
+  finds_from : (code : Code) (o : Option ℕ) → Indexed (all_codes hs) code o → Finds rs code o
+  finds_from code None none =
+      let other = all_unmap (λ c. same_code c code ≡ false) (λ t. t.code) rs (subst (All (λ c. same_code c code ≡ false)) (sym filed.codes) none) in
+      record { none = other; found = first_missing rs code other; changes = λ f. changed_none code f rs other }
+  finds_from code (Some i) (l, is) =
+      let l' : i < length rs = omega (arith, length_filed) in
+      let at : (d : Record) → (get_or rs i d).code ≡ code = λ d. sym (get_or-map (λ t. t.code) rs i d code l') ∙ ap (λ cs. get_or cs i code) filed.codes ∙ is code in
+      record {
+        within = l';
+        has_code = at;
+        found = λ d. ap (λ c. first_of (λ t. same_code t.code c) rs) (sym (at d)) ∙ first_at rs i d l' apart;
+        changes = λ f d. ap (λ c. changed c f rs) (sym (at d)) ∙ changed_at rs i d l' f apart;
+      }
+
+  pub finds : length rs < 2 ^ 64 → (code : Code) → Finds rs code (index_in hs code)
+  finds small code = finds_from code (index_in hs code) (indexed hs code filed.begin filed.falling (omega (arith, length_filed)))
 
   found_there : (i : ℕ) (d : Record) → i < length rs → (o : Option ℕ) → Finds rs (get_or rs i d).code o → o ≡ Some i
   found_there i d l None missing =

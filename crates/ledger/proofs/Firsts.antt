@@ -4,9 +4,10 @@ use Rattle.std.proofs.ByRecursion.{All-weaker}
 use Rattle.std.proofs.lemmas.Bool.{cases_Bool, both_ways, cond_both, cond-true}
 use Rattle.std.specs.Cmp.{IsStrictWeakOrder}
 use Rattle.std.specs.List.{AllByRecursion as All}
+use Rattle.std.specs.Option.{option_map}
 use Rattle.register.specs.Laws.{Laws}
 use Rattle.register.specs.Order.{same}
-use Rattle.rulebook.specs.Lists.{some_of, and_then, earlier_of, first_by}
+use Rattle.rulebook.specs.Lists.{some_of, earlier_of, first_by}
 
 module _ {X : Type 0} (before : X → X → Bool) where
   -- what holds of all holds of the first
@@ -65,7 +66,7 @@ module _ {X K : Type 0} {order : K → K → Bool} (laws : Laws order) (lt : K �
     (before : X → X → Bool) (ranks : IsStrictWeakOrder before) (D : X → Type 0)
     (level : (t u : X) → D t → D u → before t u ≡ false → lt (key u) (key t) ≡ false → shown (key t) ≡ shown (key u))
   where
-    pub shown_first : (ts : List X) (found : Option K) → All D ts → Ends lt (λ k. some_of (λ t. same order (key t) k) ts) found → and_then found (λ k. Some (shown k)) ≡ and_then (first_by before ts) (λ t. Some (shown (key t)))
+    pub shown_first : (ts : List X) (found : Option K) → All D ts → Ends lt (λ k. some_of (λ t. same order (key t) k) ts) found → option_map shown found ≡ option_map (λ t. shown (key t)) (first_by before ts)
     shown_first [] None d e = refl
     shown_first [] (Some x) d e = absurd (both_ways false refl e.0)
     shown_first (t ∷ ts) None d e =

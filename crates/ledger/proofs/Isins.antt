@@ -1,11 +1,12 @@
 -- ISINs of the same bytes, and securities that are apart.
-use Rattle.std.proofs.Common.{◌≡◌, ℕ, zero, suc, ◌<◌, Bool, true, false, cond, List, [], ◌∷◌, map, length, get_or, sym, refl, ap, ◌∙◌, inl, inr, arith}
+use Rattle.std.proofs.Common.{◌≡◌, ℕ, zero, suc, ◌<◌, Bool, true, false, List, [], ◌∷◌, map, length, get_or, sym, refl, ap, ◌∙◌, arith}
 use Rattle.std.specs.List.{AllByRecursion as All}
 use Rattle.std.specs.Str.{bytes_eq}
 use Rattle.std.proofs.ByRecursion.{All-get_or, All-weaker}
 use Rattle.std.proofs.lemmas.Slice.Eq.{bytes_eq-Decides}
 use Rattle.std.proofs.lemmas.List.{get_or-map, length-map}
-use Rattle.std.proofs.lemmas.Bool.{cases_Bool, true≢false}
+use Rattle.std.proofs.lemmas.Bool.Decides.{nat_tests}
+use Rattle.std.proofs.lemmas.Bool.{cond_both}
 use Rattle.identifier.specs.declared.isin.Isin.{Isin}
 use Rattle.report.specs.declared.security.Security.{Security}
 use Rattle.rulebook.specs.Notebook.{same_isin}
@@ -20,8 +21,7 @@ pub isin_sym : (a b : Isin) → same_isin a b ≡ true → same_isin b a ≡ tru
 isin_sym a b e = (bytes_eq-Decides b.bytes a.bytes).1 (sym (isin_bytes a b e))
 
 isin_sym_not : (a b : Isin) → same_isin a b ≡ false → same_isin b a ≡ false
-isin_sym_not a b e =
-    elim (cases_Bool (same_isin b a)) [ inl h ↦ absurd (true≢false (sym (isin_sym b a h) ∙ e)) | inr h ↦ h ]
+isin_sym_not a b e = grind (arith, nat_tests, isin_sym b a)
 
 -- what is said of one holds of the other
 pub isin_moved : (a b c : Isin) (r : Bool) → same_isin a b ≡ true → same_isin b c ≡ r → same_isin a c ≡ r
@@ -51,28 +51,19 @@ apart_places ls i j d a h k ne =
     ∙ e
 
 -- a listing keeps the securities apart
-all_either :
-    (P : Security → Type 0) (s x : Security) (xs : List Security) (b : Bool) → All P (x ∷ xs) → P s → All P (with_security s xs)
-    → All P (cond b (s ∷ xs) (x ∷ with_security s xs))
-all_either P s x xs true a p later = (p, a.1)
-all_either P s x xs false a p later = (a.0, later)
-
 all_with_security :
     (P : Security → Type 0) (s : Security) (ss : List Security) → All P ss → P s → All P (with_security s ss)
 all_with_security P s [] a p = (p, tt)
 all_with_security P s (x ∷ xs) a p =
-    all_either P s x xs (same_isin x.isin s.isin) a p (all_with_security P s xs a.1 p)
-
-apart_cons :
-    (s x : Security) (xs : List Security) (b : Bool) → same_isin x.isin s.isin ≡ b → Apart (x ∷ xs) → Apart (with_security s xs)
-    → Apart (cond b (s ∷ xs) (x ∷ with_security s xs))
-apart_cons s x xs true e a later = (
-  All-weaker (λ y. same_isin x.isin y.isin ≡ false) (λ y. same_isin s.isin y.isin ≡ false)
-      (λ y h. isin_moved s.isin x.isin y.isin false (isin_sym x.isin s.isin e) h) xs a.0,
-  a.1,
-)
-apart_cons s x xs false e a later = (all_with_security (λ y. same_isin x.isin y.isin ≡ false) s xs a.0 e, later)
+    cond_both (same_isin x.isin s.isin) (s ∷ xs) (x ∷ with_security s xs) (All P) (λ e. (p, a.1)) (λ e. (a.0, all_with_security P s xs a.1 p))
 
 pub apart_listing : (s : Security) (ss : List Security) → Apart ss → Apart (with_security s ss)
 apart_listing s [] a = (tt, tt)
-apart_listing s (x ∷ xs) a = apart_cons s x xs (same_isin x.isin s.isin) refl a (apart_listing s xs a.1)
+apart_listing s (x ∷ xs) a =
+    cond_both (same_isin x.isin s.isin) (s ∷ xs) (x ∷ with_security s xs) Apart
+    (λ e. (
+      All-weaker (λ y. same_isin x.isin y.isin ≡ false) (λ y. same_isin s.isin y.isin ≡ false)
+          (λ y h. isin_moved s.isin x.isin y.isin false (isin_sym x.isin s.isin e) h) xs a.0,
+      a.1,
+    ))
+    (λ e. (all_with_security (λ y. same_isin x.isin y.isin ≡ false) s xs a.0 e, apart_listing s xs a.1))

@@ -1,6 +1,7 @@
 -- A register follows the trades where it is told of each change: a key put if there is one, or taken out if there is one.
 use Rattle.std.proofs.Common.{◌≡◌, ℕ, ◌<◌, ◌≤◌, Bool, true, false, not, ◌||◌, List, [], ◌∷◌, ◌++◌, length, is_some, Some, None, Option, sym, refl, ap, ◌∙◌, ⊎_elim, arith}
 use Rattle.std.proofs.ByRecursion.{All-weaker}
+use Rattle.std.proofs.lemmas.Bool.Decides.{nat_tests}
 use Rattle.std.proofs.lemmas.Bool.{cases_Bool, lt-ltb}
 use Rattle.std.specs.List.{AllByRecursion as All}
 use Rattle.register.specs.Laws.{Laws}
@@ -31,11 +32,7 @@ module _ {K : Type 0} {lt : K → K → Bool} (laws : Laws lt) (f : Record → O
       (cases_Bool (has lt k ks))
     where
       already : has lt k ks ≡ true → (same lt k j || has lt j ks) ≡ has lt j ks
-      already e =
-          ⊎_elim
-          (λ (y : same lt k j ≡ true). rw y (sym e ∙ ap (λ i. has lt i ks) (laws.same_is k j y)))
-          (λ (y : same lt k j ≡ false). rw y)
-          (cases_Bool (same lt k j))
+      already e = grind (arith, nat_tests, e, laws.same_is k j)
 
   module _ (rs : List Record) (ks : List K) (rising : Rising lt ks) (m : Mirrors lt f rs ks) (places : ℕ) where
     -- a trade is added, and its key put if it has one

@@ -8,11 +8,12 @@ pub mod Isins
 pub mod KeysFollowing
 pub mod Listing
 pub mod Mirroring
+pub mod OnSheet
 pub mod Opening
-pub mod Placing
 pub mod Read
 pub mod Relisting
 pub mod Rooms
+pub mod Row
 pub mod SheetFollows
 pub mod SheetRegister
 pub mod Somewhere

@@ -1,9 +1,11 @@
 -- What a search for an ISIN's place finds, and what a listing leaves.
-use Rattle.std.proofs.Common.{◌≡◌, ℕ, suc, ◌+◌, ◌<◌, ◌≤◌, Bool, true, false, cond, ltb, ◌⊎◌, List, [], ◌∷◌, ◌++◌, map, length, get_or, take, set, is_some, Some, None, Option, sym, refl, ap, ◌∙◌, inl, inr, arith}
+use Rattle.std.proofs.Common.{◌≡◌, ℕ, zero, suc, ◌+◌, ◌<◌, ◌≤◌, true, false, cond, ltb, ◌⊎◌, List, [], ◌∷◌, ◌++◌, map, length, get_or, take, set, is_some, Some, None, Option, sym, refl, ap, ◌∙◌, inl, inr, arith}
 use lib.Seq.{take-set-lt}
-use Rattle.std.specs.List.{AllByRecursion as All}
-use Rattle.std.proofs.lemmas.List.{get_or_default, get_or-take, length-take-le, take_more_set, set_past}
-use Rattle.std.proofs.lemmas.Bool.{true≢false, lt-ltb, le-ltb, cond-true, cond-false}
+use Rattle.std.specs.List.{position_from, AllByRecursion as All}
+use Rattle.std.proofs.lemmas.List.{get_or_default, get_or-take, length-take-le, take_more_set}
+use Rattle.std.proofs.lemmas.Iterator.Adapters.{position_from-zero}
+use Rattle.std.proofs.lemmas.List.Quantifiers.{position-Some}
+use Rattle.std.proofs.lemmas.Bool.{true≢false, lt-ltb, cond-true, cond-false}
 use Rattle.identifier.specs.declared.isin.Isin.{Isin}
 use Rattle.report.specs.declared.security.Security.{Security}
 use Rattle.rulebook.specs.declared.record.Record.{Record}
@@ -12,58 +14,31 @@ use Rattle.rulebook.specs.Notebook.{same_isin}
 use Rattle.rulebook.specs.Taken.{with_security}
 use Rattle.ledger.specs.declared.listed.Listed.{Listed}
 use Rattle.ledger.specs.Listing.{untraded, written_over, with_listing, place_among, slice_at, slice_listing, count_at, count_listing, Listing}
-use Rattle.ledger.specs.Places.{place_from, place_of}
+use Rattle.ledger.specs.Places.{place_of}
 use Rattle.ledger.specs.Totalled.{StandsAt}
 use Rattle.ledger.proofs.Isins.{isin_sym}
 
--- found at a place, counted from k on
-pub record Found (isin : Isin) (k : ℕ) (xs : List Listed) (place : ℕ) : Type 0 where
-  pub from : ℕ
-  pub is : place ≡ k + from
-  pub within : from < length xs
-  pub same : (d : Listed) → same_isin (get_or xs from d).security.isin isin ≡ true
-  pub security : (d : Listed) → first_of (λ s. same_isin s.isin isin) (map (λ l. l.security) xs) ≡ Some (get_or xs from d).security
-  pub over : (s : Security) (d : Listed) → s.isin ≡ isin → with_listing s xs ≡ set xs from (written_over s (get_or xs from d))
+-- the first that has the ISIN is the one that a search finds, and that a listing writes over
+first_security :
+    (isin : Isin) (xs : List Listed) (i : ℕ) (d : Listed) → i < length xs → same_isin (get_or xs i d).security.isin isin ≡ true
+    → ((k : ℕ) → k < i → same_isin (get_or xs k d).security.isin isin ≡ false)
+    → first_of (λ s. same_isin s.isin isin) (map (λ l. l.security) xs) ≡ Some (get_or xs i d).security
+first_security isin [] i d h is none = absurd (omega arith)
+first_security isin (x ∷ xs) zero d h is none = cond-true _ _ _ is
+first_security isin (x ∷ xs) (suc i) d h is none =
+    cond-false _ _ _ (none 0 (omega arith)) ∙ first_security isin xs i d (omega arith) is (λ k l. none (suc k) (omega arith))
 
-found_cons :
-    (isin : Isin) (k : ℕ) (x : Listed) (xs : List Listed) (place : ℕ) (b : Bool)
-    → same_isin x.security.isin isin ≡ b
-    → cond b (Some k) (place_from (k + 1) xs isin) ≡ Some place
-    → (place_from (k + 1) xs isin ≡ Some place → Found isin (k + 1) xs place)
-    → Found isin k (x ∷ xs) place
-found_cons isin k x xs place true e h later =
-    let here : place ≡ k = cc in
-    record {
-      from = 0;
-      is = omega arith;
-      within = omega arith;
-      same = λ d. e;
-      security =
-          λ d. ap (λ t. cond t (Some x.security) (first_of (λ s. same_isin s.isin isin) (map (λ l. l.security) xs))) e;
-      over =
-          λ s d i. ap (λ t. cond t (written_over s x ∷ xs) (x ∷ with_listing s xs)) (ap (same_isin x.security.isin) i ∙ e);
-    }
-found_cons isin k x xs place false e h later =
-    let f = later h in
-    record {
-      from = suc f.from;
-      is = omega (arith, f.is);
-      within = omega (arith, f.within);
-      same = λ d. f.same d;
-      security =
-          λ d. ap (λ t. cond t (Some x.security) (first_of (λ s. same_isin s.isin isin) (map (λ l. l.security) xs))) e
-          ∙ f.security d;
-      over =
-          λ s d i. ap (λ t. cond t (written_over s x ∷ xs) (x ∷ with_listing s xs)) (ap (same_isin x.security.isin) i ∙ e)
-          ∙ ap (λ ys. x ∷ ys) (f.over s d i);
-    }
+first_over :
+    (s : Security) (xs : List Listed) (i : ℕ) (d : Listed) → i < length xs → same_isin (get_or xs i d).security.isin s.isin ≡ true
+    → ((k : ℕ) → k < i → same_isin (get_or xs k d).security.isin s.isin ≡ false)
+    → with_listing s xs ≡ set xs i (written_over s (get_or xs i d))
+first_over s [] i d h is none = absurd (omega arith)
+first_over s (x ∷ xs) zero d h is none = cond-true _ _ _ is
+first_over s (x ∷ xs) (suc i) d h is none =
+    cond-false _ _ _ (none 0 (omega arith))
+    ∙ ap (λ ys. x ∷ ys) (first_over s xs i d (omega arith) is (λ k l. none (suc k) (omega arith)))
 
-found_from : (isin : Isin) (k : ℕ) (xs : List Listed) (place : ℕ) → place_from k xs isin ≡ Some place → Found isin k xs place
-found_from isin k [] place h = let z : ◌≡◌ {A = ℕ} 0 1 = cc in absurd (omega arith)
-found_from isin k (x ∷ xs) place h =
-    found_cons isin k x xs place (same_isin x.security.isin isin) refl h (found_from isin (k + 1) xs place)
-
--- found at that very place
+-- found at a place
 pub record FoundAt (isin : Isin) (xs : List Listed) (place : ℕ) : Type 0 where
   pub within : place < length xs
   pub same : (d : Listed) → same_isin (get_or xs place d).security.isin isin ≡ true
@@ -71,14 +46,15 @@ pub record FoundAt (isin : Isin) (xs : List Listed) (place : ℕ) : Type 0 where
   pub over : (s : Security) (d : Listed) → s.isin ≡ isin → with_listing s xs ≡ set xs place (written_over s (get_or xs place d))
 
 pub found : (isin : Isin) (xs : List Listed) (place : ℕ) → place_of xs isin ≡ Some place → FoundAt isin xs place
-found isin xs place h =
-    let f = found_from isin 0 xs place h in
-    let e : f.from ≡ place = omega (arith, f.is) in
+found isin [] place h = let z : ◌≡◌ {A = ℕ} 0 1 = cc in absurd (omega arith)
+found isin (x ∷ tail) place h =
+    let xs = x ∷ tail in
+    let f = λ (d : Listed). position-Some (λ l. same_isin l.security.isin isin) xs place d h in
     record {
-      within = omega (arith, f.within);
-      same = λ d. rw e at (f.same d);
-      security = λ d. rw e at (f.security d);
-      over = λ s d i. rw e at (f.over s d i);
+      within = (f x).0;
+      same = λ d. (f d).1;
+      security = λ d. first_security isin xs place d (f d).0 (f d).1 (f d).2;
+      over = λ s d is. first_over s xs place d (f d).0 (ap (same_isin _) is ∙ (f d).1) (λ k l. ap (same_isin _) is ∙ (f d).2 k l);
     }
 
 -- so a trade of that ISIN stands there
@@ -95,23 +71,19 @@ stands_at ls days t place slot h held day =
     }
 
 -- not found, so none has the ISIN
-unlisted_cons :
-    (isin : Isin) (k : ℕ) (x : Listed) (xs : List Listed) (b : Bool)
-    → same_isin x.security.isin isin ≡ b
-    → cond b (Some k) (place_from (k + 1) xs isin) ≡ None
-    → (place_from (k + 1) xs isin ≡ None → All (λ l. same_isin l.security.isin isin ≡ false) xs)
-    → All (λ l. same_isin l.security.isin isin ≡ false) (x ∷ xs)
-unlisted_cons isin k x xs true e h later = let z : ◌≡◌ {A = ℕ} 0 1 = cc in absurd (omega arith)
-unlisted_cons isin k x xs false e h later = (e, later h)
-
 unlisted_from :
-    (isin : Isin) (k : ℕ) (xs : List Listed) → place_from k xs isin ≡ None → All (λ l. same_isin l.security.isin isin ≡ false) xs
+    (isin : Isin) (k : ℕ) (xs : List Listed) → position_from (λ l. same_isin l.security.isin isin) k xs ≡ None
+    → All (λ l. same_isin l.security.isin isin ≡ false) xs
 unlisted_from isin k [] h = tt
 unlisted_from isin k (x ∷ xs) h =
-    unlisted_cons isin k x xs (same_isin x.security.isin isin) refl h (unlisted_from isin (k + 1) xs)
+    elim (same_isin x.security.isin isin) as
+    (λ b. cond b (Some k) (position_from (λ l. same_isin l.security.isin isin) (k + 1) xs) ≡ None → (b ≡ false) × All (λ l. same_isin l.security.isin isin ≡ false) xs) [
+      | true ↦ λ e. let z : ◌≡◌ {A = ℕ} 0 1 = cc in absurd (omega arith)
+      | false ↦ λ e. (refl, unlisted_from isin (k + 1) xs e)
+    ] h
 
 pub unlisted : (isin : Isin) (xs : List Listed) → place_of xs isin ≡ None → All (λ l. same_isin l.security.isin isin ≡ false) xs
-unlisted isin xs h = unlisted_from isin 0 xs h
+unlisted isin xs h = unlisted_from isin 0 xs (sym (position_from-zero (λ l. same_isin l.security.isin isin) xs) ∙ h)
 
 pub no_security :
     (isin : Isin) (xs : List Listed) → All (λ l. same_isin l.security.isin isin ≡ false) xs
@@ -130,18 +102,15 @@ listing_last s (x ∷ xs) a =
     ap (λ t. cond t (written_over s x ∷ xs) (x ∷ with_listing s xs)) a.0 ∙ ap (λ ys. x ∷ ys) (listing_last s xs a.1)
 
 -- the securities alone
-securities_cons :
-    (s : Security) (x : Listed) (xs : List Listed) (b : Bool)
-    → map (λ l. l.security) (with_listing s xs) ≡ with_security s (map (λ l. l.security) xs)
-    → map (λ l. l.security) (cond b (written_over s x ∷ xs) (x ∷ with_listing s xs))
-    ≡ cond b (s ∷ map (λ l. l.security) xs) (x.security ∷ with_security s (map (λ l. l.security) xs))
-securities_cons s x xs true later = refl
-securities_cons s x xs false later = ap (λ ys. x.security ∷ ys) later
-
 pub securities_listing : (s : Security) (xs : List Listed) → map (λ l. l.security) (with_listing s xs) ≡ with_security s (map (λ l. l.security) xs)
 securities_listing s [] = refl
 securities_listing s (x ∷ xs) =
-    securities_cons s x xs (same_isin x.security.isin s.isin) (securities_listing s xs)
+    elim (same_isin x.security.isin s.isin) as
+    (λ b.
+    map (λ l. l.security) (cond b (written_over s x ∷ xs) (x ∷ with_listing s xs)) ≡ cond b (s ∷ map (λ l. l.security) xs) (x.security ∷ with_security s (map (λ l. l.security) xs))) [
+      | true ↦ refl
+      | false ↦ ap (λ ys. x.security ∷ ys) (securities_listing s xs)
+    ]
 
 -- the first of the slice
 module _ (s : Security) (count : ℕ) (ls : List Listed) (fits : count ≤ length ls) where
@@ -193,8 +162,3 @@ module _ (s : Security) (count : ℕ) (ls : List Listed) (fits : count ≤ lengt
   lists_behind y e h is =
       is_listing (set ls count y) (count + 1) (ap (λ l. set ls count l) is ∙ ap (slice_at s count ls) (sym e))
       (sym (cond-true (ltb count (length ls)) (count + 1) count (lt-ltb count (length ls) h)) ∙ ap (count_at count (length ls)) (sym e))
-
-  pub lists_not : place_among s count ls ≡ None → length ls ≤ count → Listing s count ls ls count
-  lists_not e h =
-      is_listing ls count (sym (set_past ls count (untraded s) h) ∙ ap (slice_at s count ls) (sym e))
-      (sym (cond-false (ltb count (length ls)) (count + 1) count (le-ltb count (length ls) h)) ∙ ap (count_at count (length ls)) (sym e))

@@ -1,7 +1,8 @@
 -- A register follows the trades: what a change of the trades does to the keys.
-use Rattle.std.proofs.Common.{◌≡◌, Bool, true, false, cond, not, ◌&&◌, ◌||◌, List, [], ◌∷◌, ◌++◌, Some, None, filter, Option, sym, refl, ap, ◌∙◌, subst, ⊎_elim}
+use Rattle.std.proofs.Common.{◌≡◌, Bool, true, false, cond, not, ◌&&◌, ◌||◌, List, [], ◌∷◌, ◌++◌, Some, None, filter, Option, sym, refl, ap, ◌∙◌, subst, ⊎_elim, arith}
 use Rattle.std.proofs.ByRecursion.{All-weaker}
-use Rattle.std.proofs.lemmas.Bool.{cases_Bool, both_ways}
+use Rattle.std.proofs.lemmas.Bool.{cases_Bool}
+use Rattle.std.proofs.lemmas.Bool.Decides.{nat_tests}
 use Rattle.std.specs.List.{AllByRecursion as All}
 use Rattle.register.specs.Laws.{Laws}
 use Rattle.register.specs.Lists.{from, with_key, without}
@@ -12,15 +13,7 @@ use Rattle.rulebook.specs.Lists.{some_of}
 use Rattle.rulebook.specs.Notebook.{same_code}
 use Rattle.rulebook.specs.Taken.{changed}
 use Rattle.ledger.specs.Mirrors.{is_key, Mirrors}
-use Rattle.ledger.proofs.Somewhere.{and_false, some_push, some_map, some_kept, some_and, some_or}
-
-or_false : (b : Bool) → (b || false) ≡ b
-or_false true = refl
-or_false false = refl
-
-not_and : (b : Bool) → (not b && b) ≡ false
-not_and true = refl
-not_and false = refl
+use Rattle.ledger.proofs.Somewhere.{some_push, some_map, some_kept, some_and, some_or}
 
 module _ {K : Type 0} {lt : K → K → Bool} (laws : Laws lt) (f : Record → Option K) where
   -- the key of a trade is k, and no other
@@ -86,20 +79,14 @@ module _ {K : Type 0} {lt : K → K → Bool} (laws : Laws lt) (f : Record → O
           (each_changed (λ b u v. is_key lt (f v) j ≡ (not (same lt k j) && is_key lt (f u) j)) at_t other))
         where
           at_t : is_key lt (f (g t)) j ≡ (not (same lt k j) && is_key lt (f t) j)
-          at_t = is_none (f (g t)) j has-none ∙ sym (not_and (same lt k j)) ∙ ap (λ b. not (same lt k j) && b) (sym (is_only (f t) k j had))
-
-          not_its : (u : Record) → same_code u.code code ≡ false → same lt k j ≡ true → is_key lt (f u) j ≡ false
-          not_its u o e =
-              ⊎_elim
-              (λ (y : is_key lt (f u) j ≡ true).
-              absurd (both_ways (same_code u.code code) o (tells u (ap (λ i. is_key lt (f u) i) (laws.same_is k j e) ∙ y))))
-              (λ (y : is_key lt (f u) j ≡ false). y)
-              (cases_Bool (is_key lt (f u) j))
+          at_t = grind (arith, nat_tests, is_none (f (g t)) j has-none, is_only (f t) k j had)
 
           other : (u : Record) → same_code u.code code ≡ false → is_key lt (f u) j ≡ (not (same lt k j) && is_key lt (f u) j)
           other u o =
               ⊎_elim
-              (λ (e : same lt k j ≡ true). not_its u o e ∙ ap (λ b. not b && is_key lt (f u) j) (sym e))
+              (λ (e : same lt k j ≡ true).
+              let its : is_key lt (f u) j ≡ true → same_code u.code code ≡ true = λ y. tells u (ap (λ i. is_key lt (f u) i) (laws.same_is k j e) ∙ y) in
+              grind (arith, nat_tests, its, o, e))
               (λ (e : same lt k j ≡ false). ap (λ b. not b && is_key lt (f u) j) (sym e))
               (cases_Bool (same lt k j))
 
@@ -118,7 +105,7 @@ module _ {K : Type 0} {lt : K → K → Bool} (laws : Laws lt) (f : Record → O
           rs
           (each_changed
           (λ b u v. is_key lt (f v) j ≡ ((b && same lt k j) || is_key lt (f u) j))
-          (is_only (f (g t)) k j has-k ∙ sym (or_false (same lt k j)) ∙ ap (λ b. same lt k j || b) (sym (is_none (f t) j had-none)))
+          (grind (arith, nat_tests, is_only (f (g t)) k j has-k, is_none (f t) j had-none))
           (λ u o. refl)))
 
   -- ---- trades are struck out, those whose keys are before a bound
@@ -140,9 +127,9 @@ module _ {K : Type 0} {lt : K → K → Bool} (laws : Laws lt) (f : Record → O
       passes))
     where
       at : (o : Option K) (b : Bool) → ((k : K) → o ≡ Some k → b ≡ not (lt k low)) → (b && is_key lt o j) ≡ (not (lt j low) && is_key lt o j)
-      at None b h = and_false b ∙ sym (and_false (not (lt j low)))
+      at None b h = grind (arith, nat_tests)
       at (Some k) b h =
           ⊎_elim
           (λ (e : same lt k j ≡ true). ap (λ b. b && same lt k j) (h k refl ∙ ap (λ i. not (lt i low)) (laws.same_is k j e)))
-          (λ (e : same lt k j ≡ false). rw e (and_false b ∙ sym (and_false (not (lt j low)))))
+          (λ (e : same lt k j ≡ false). grind (arith, nat_tests, e))
           (cases_Bool (same lt k j))

@@ -1,27 +1,35 @@
 -- What a day that is opened leaves of filed records.
-use Rattle.std.proofs.Common.{◌≡◌, ℕ, ◌<◌, ◌≤◌, true, false, cond, eqb, List, [], ◌∷◌, ◌++◌, map, length, take, drop, filter, sym, refl, ap, ◌∙◌, subst, arith}
-use Rattle.std.specs.List.{AllByRecursion as All}
+use Rattle.std.proofs.Common.{◌≡◌, ℕ, ◌<◌, ◌≤◌, true, false, eqb, List, [], ◌∷◌, ◌++◌, map, length, take, drop, filter, Some, None, Option, sym, refl, ap, ◌∙◌, subst, arith}
+use Rattle.std.specs.List.{flat_map, AllByRecursion as All}
+use Rattle.std.specs.Option.{option_to_list}
 use Rattle.std.proofs.ByRecursion.{All-weaker}
 use Rattle.std.proofs.lemmas.List.{append-nil, append_assoc, length-append, length-drop, drop_at, drop-map}
-use Rattle.std.proofs.lemmas.Bool.{eq-eqb, ne_eqb, cond-true, cond-false}
+use Rattle.std.proofs.lemmas.Bool.Decides.{nat_tests}
+use Rattle.std.proofs.lemmas.Bool.{and_parts, eqb-true}
 use Rattle.deferral.specs.declared.opened.Opened.{Opened}
 use Rattle.rulebook.specs.declared.record.Record.{Record}
 use Rattle.rulebook.specs.Notebook.{among}
 use Rattle.ledger.specs.declared.days.Days.{Days}
-use Rattle.ledger.specs.declared.days.Days.TheVariants.{Empty, One, Two, Three}
-use Rattle.ledger.specs.declared.days.HeldDay.{HeldDay}
-use Rattle.ledger.specs.Days.{held_days, new_day, lowered, falls_out, with_opened}
+use Rattle.ledger.specs.declared.held_day.HeldDay.{HeldDay}
+use Rattle.ledger.specs.HeldDay.{new_day, lowered}
+use Rattle.ledger.specs.Days.{held_days, falls_out, with_opened}
+use Rattle.ledger.specs.Packed.{in_front}
 use Rattle.ledger.specs.Filed.{codes_of, all_codes, record_codes, Later, Falling, Filed}
 use Rattle.ledger.proofs.Codes.{length_codes, each_day, each_day_in}
 use Rattle.ledger.proofs.Filing.{length_filed, kept_behind}
 
 -- ---- the days that are held
 
+some_few : {X : Type 0} (os : List (Option X)) → length (flat_map option_to_list os) ≤ length os
+some_few [] = omega arith
+some_few (None ∷ os) = let few = some_few os in omega arith
+some_few (Some x ∷ os) = let few = some_few os in omega arith
+
 pub held_few : (d : Days) → length (held_days d) ≤ 3
-held_few Empty = omega arith
-held_few (One a) = omega arith
-held_few (Two a b) = omega arith
-held_few (Three a b c) = omega arith
+held_few d =
+    let three : length d.held ≡ 3 = eqb-true (length d.held) 3 (and_parts (eqb (length d.held) 3) (in_front d.held) d.packed).0 in
+    let few = some_few d.held in
+    omega arith
 
 -- a day after the latest is after all
 pub later_than_all : (h : HeldDay) (hs : List HeldDay) (day : ℕ) → Falling (h ∷ hs) → h.opened.day < day → Later day (h ∷ hs)
@@ -30,20 +38,20 @@ later_than_all h hs day (later, f) l = (l, All-weaker (λ g. g.opened.day < h.op
 -- ---- which records are of the days held
 
 among_behind : (o : Opened) (os : List Opened) (day : ℕ) → among os day ≡ true → among (o ∷ os) day ≡ true
-among_behind o os day h = elim (eqb o.day day) as (λ b. cond b true (among os day) ≡ true) [ true ↦ refl | false ↦ h ]
+among_behind o os day h = grind (arith, nat_tests)
 
 among_itself : (hs : List HeldDay) → All (λ h. among (map (λ g. g.opened) hs) h.opened.day ≡ true) hs
 among_itself [] = tt
 among_itself (h ∷ hs) =
     let os = map (λ g. g.opened) hs in
     let behind : (g : HeldDay) → among os g.opened.day ≡ true → among (h.opened ∷ os) g.opened.day ≡ true = λ g. among_behind h.opened os g.opened.day in (
-      cond-true (eqb h.opened.day h.opened.day) true (among os h.opened.day) (eq-eqb h.opened.day h.opened.day refl),
+      grind (arith, nat_tests),
       All-weaker (λ g. among os g.opened.day ≡ true) (λ g. among (h.opened ∷ os) g.opened.day ≡ true) behind hs (among_itself hs),
     )
 
 among_none : (os : List Opened) (day : ℕ) → All (λ o. o.day ≡ day → ⊥) os → among os day ≡ false
 among_none [] day h = refl
-among_none (o ∷ os) day (h, hs) = cond-false (eqb o.day day) true (among os day) (ne_eqb o.day day h) ∙ among_none os day hs
+among_none (o ∷ os) day (h, hs) = grind (arith, nat_tests, h, among_none os day hs)
 
 -- each code's day is among the days with one more
 among_held : (o : Opened) (hs : List HeldDay) → All (λ c. among (o ∷ map (λ h. h.opened) hs) c.day ≡ true) (all_codes hs)

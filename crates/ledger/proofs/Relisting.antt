@@ -1,13 +1,14 @@
 -- What a listing keeps of the totals.
-use Rattle.std.proofs.Common.{◌≡◌, ℕ, ◌≤◌, Bool, true, false, cond, ◌&&◌, List, [], ◌∷◌, map, length, get_or, replicate, is_some, filter, sym, refl, ap, ◌∙◌, inl, inr, arith}
+use Rattle.std.proofs.Common.{◌≡◌, ℕ, ◌≤◌, true, false, ◌&&◌, List, [], ◌∷◌, map, length, get_or, replicate, is_some, filter, sym, refl, ap, ◌∙◌, inl, inr, arith}
 use Rattle.std.specs.List.{AllByRecursion as All}
 use Rattle.std.specs.Str.{bytes_eq}
 use Rattle.std.proofs.ByRecursion.{All-weaker}
 use Rattle.std.proofs.lemmas.List.{get_or-replicate}
-use Rattle.std.proofs.lemmas.Bool.{and_left, cases_Bool, true≢false}
+use Rattle.std.proofs.lemmas.Bool.{and_left, cond_both, cases_Bool, true≢false}
 use Rattle.report.specs.declared.figures.Sheet.{Sheet}
 use Rattle.report.specs.declared.figures.Sheet.TheVariants.{Full, Public}
 use Rattle.report.specs.declared.security.Security.{Security}
+use Rattle.register.proofs.Members.{kept_none}
 use Rattle.rulebook.specs.declared.record.Record.{Record}
 use Rattle.rulebook.specs.Lists.{first_of}
 use Rattle.rulebook.specs.Notebook.{same_isin, of_day}
@@ -18,15 +19,10 @@ use Rattle.ledger.specs.Totalled.{slots_on, TotalsIn, TotalsOn, EachListed}
 use Rattle.ledger.specs.Totals.{no_trades, totals_of}
 use Rattle.ledger.proofs.Isins.{isin_bytes}
 use Rattle.ledger.proofs.Listing.{no_security}
-use Rattle.ledger.proofs.Sums.{kept_none}
 
 untraded_slots : (sheet : Sheet) (s : Security) → slots_on sheet (untraded s) ≡ replicate 3 no_trades
 untraded_slots Full s = refl
 untraded_slots Public s = refl
-
-over_slots : (sheet : Sheet) (s : Security) (l : Listed) → slots_on sheet (written_over s l) ≡ slots_on sheet l
-over_slots Full s l = refl
-over_slots Public s l = refl
 
 module _ (sheet : Sheet) (s : Security) (days : List ℕ) (rs : List Record) where
   -- a security of which there are no trades
@@ -46,20 +42,12 @@ module _ (sheet : Sheet) (s : Security) (days : List ℕ) (rs : List Record) whe
   totals_over : (l : Listed) → same_isin l.security.isin s.isin ≡ true → TotalsIn sheet days rs l → TotalsIn sheet days rs (written_over s l)
   totals_over l same so =
       record {
-        wide = let long : length (slots_on sheet (written_over s l)) ≡ length (slots_on sheet l) = ap length (over_slots sheet s l) in omega (arith, so.wide);
+        wide = so.wide;
         each = λ slot h.
-            ap (λ ts. get_or ts slot no_trades) (over_slots sheet s l)
-            ∙ so.each slot h
+            so.each slot h
             ∙ ap (λ b. totals_of (filter (λ t. bytes_eq t.report.isin.bytes b && (of_day (get_or days slot 0) t && counts sheet t.state)) rs))
             (isin_bytes l.security.isin s.isin same);
       }
-
-  listing_cons :
-      (l : Listed) (ls : List Listed) (b : Bool) → same_isin l.security.isin s.isin ≡ b → TotalsOn sheet (l ∷ ls) days rs
-      → (b ≡ false → TotalsOn sheet (with_listing s ls) days rs)
-      → TotalsOn sheet (cond b (written_over s l ∷ ls) (l ∷ with_listing s ls)) days rs
-  listing_cons l ls true e so later = (totals_over l e so.0, so.1)
-  listing_cons l ls false e so later = (so.0, later refl)
 
   -- a security that is new has no trades, and one written over keeps its own
   pub keeps_listing :
@@ -68,8 +56,8 @@ module _ (sheet : Sheet) (s : Security) (days : List ℕ) (rs : List Record) whe
       → TotalsOn sheet ls days rs → TotalsOn sheet (with_listing s ls) days rs
   keeps_listing [] few none so = (totals_untraded few (none tt), tt)
   keeps_listing (l ∷ ls) few none so =
-      let b = same_isin l.security.isin s.isin in
-      listing_cons l ls b refl so (λ e. keeps_listing ls few (λ a. none (e, a)) so.1)
+      cond_both (same_isin l.security.isin s.isin) (written_over s l ∷ ls) (l ∷ with_listing s ls) (λ ms. TotalsOn sheet ms days rs)
+      (λ e. (totals_over l e so.0, so.1)) (λ e. (so.0, keeps_listing ls few (λ a. none (e, a)) so.1))
 
 -- where each trade's security is listed, no trade has the ISIN of one that is not
 pub none_traded :

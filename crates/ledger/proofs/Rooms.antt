@@ -1,30 +1,18 @@
 -- A register has no more keys than there are trades kept under one.
 use Rattle.std.proofs.Common.{◌≡◌, ℕ, ◌+◌, ◌<◌, ◌≤◌, Bool, true, false, cond, not, ◌||◌, List, [], ◌∷◌, length, is_some, Some, None, filter, Option, sym, refl, ap, ◌∙◌, subst, ⊎_elim, arith}
-use Rattle.std.proofs.ByRecursion.{all_kept_by}
+use Rattle.std.proofs.lemmas.List.Sums.{length-filter, count_by-le-length}
+use Rattle.std.proofs.lemmas.Bool.Decides.{nat_tests}
 use Rattle.std.proofs.lemmas.Bool.{cases_Bool, both_ways, and_parts, not-true}
 use Rattle.register.specs.Laws.{Laws}
 use Rattle.register.specs.Lists.{Rising, has, without}
 use Rattle.register.specs.Order.{same}
+use Rattle.register.proofs.Rises.{rising_kept_by}
 use Rattle.rulebook.specs.declared.record.Record.{Record}
 use Rattle.rulebook.specs.Lists.{some_of}
 use Rattle.ledger.specs.Mirrors.{is_key, Mirrors}
 
-rising_kept : {K : Type 0} (lt : K → K → Bool) (p : K → Bool) (xs : List K) → Rising lt xs → Rising lt (filter p xs)
-rising_kept lt p [] r = tt
-rising_kept lt p (x ∷ xs) r =
-    elim (p x) as (λ b. Rising lt (cond b (x ∷ filter p xs) (filter p xs))) [
-      | true ↦ (all_kept_by p (λ y. lt x y ≡ true) xs r.0, rising_kept lt p xs r.1)
-      | false ↦ rising_kept lt p xs r.1
-    ]
-
 pub kept_most : {X : Type 0} (p : X → Bool) (xs : List X) → length (filter p xs) ≤ length xs
-kept_most p [] = omega arith
-kept_most p (x ∷ xs) =
-    let most = kept_most p xs in
-    elim (p x) as (λ b. length (cond b (x ∷ filter p xs) (filter p xs)) ≤ length (x ∷ xs)) [
-      | true ↦ omega arith
-      | false ↦ omega arith
-    ]
+kept_most p xs = omega (arith, length-filter p xs, count_by-le-length p xs)
 
 module _ {K : Type 0} {lt : K → K → Bool} (laws : Laws lt) where
   no_keys : (ks : List K) → ((k : K) → has lt k ks ≡ true → false ≡ true) → length ks ≤ 0
@@ -37,7 +25,7 @@ module _ {K : Type 0} {lt : K → K → Bool} (laws : Laws lt) where
   one_more (Some j) held n others ks r covered =
       ⊎_elim
       (λ (e : has lt j ks ≡ true).
-      let fewer = others (without lt j ks) (rising_kept lt (λ x. not (same lt x j)) ks r) left in
+      let fewer = others (without lt j ks) (rising_kept_by lt (λ x. not (same lt x j)) ks r) left in
       let one = laws.length_without j ks r e in
       omega arith)
       (λ (e : has lt j ks ≡ false).
@@ -54,11 +42,7 @@ module _ {K : Type 0} {lt : K → K → Bool} (laws : Laws lt) where
           held_by k (not-true (same lt j k) parts.0) parts.1
 
       is_not : (k : K) → has lt j ks ≡ false → has lt k ks ≡ true → same lt j k ≡ false
-      is_not k e h =
-          ⊎_elim
-          (λ (y : same lt j k ≡ true). absurd (both_ways (has lt k ks) (ap (λ i. has lt i ks) (sym (laws.same_is j k y)) ∙ e) h))
-          (λ (y : same lt j k ≡ false). y)
-          (cases_Bool (same lt j k))
+      is_not k e h = grind (arith, nat_tests, e, h, laws.same_is j k)
 
   module _ (f : Record → Option K) where
     covers : (rs : List Record) (ks : List K) → Rising lt ks → ((k : K) → has lt k ks ≡ true → some_of (λ t. is_key lt (f t) k) rs ≡ true) → length ks ≤ length (filter (λ t. is_some (f t)) rs)

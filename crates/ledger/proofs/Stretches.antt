@@ -1,7 +1,8 @@
 -- The keys of a stretch are those of the trades that make prices, of its day and security, on the sheet.
-use Rattle.std.proofs.Common.{◌≡◌, ℕ, ◌+◌, Bool, true, false, cond, not, ◌&&◌, eqb, List, Some, None, filter, sym, refl, ap, ◌∙◌}
+use Rattle.std.proofs.Common.{◌≡◌, ℕ, ◌+◌, Bool, true, cond, not, ◌&&◌, eqb, List, Some, None, filter, sym, ap, ◌∙◌, arith}
 use Rattle.std.proofs.ByRecursion.{All-weaker}
 use Rattle.std.proofs.lemmas.Bool.{eqb-true}
+use Rattle.std.proofs.lemmas.Bool.Decides.{nat_tests}
 use Rattle.identifier.specs.declared.isin.Isin.{Isin}
 use Rattle.register.specs.Laws.{Laws}
 use Rattle.register.specs.Lists.{has, between, from}
@@ -14,24 +15,15 @@ use Rattle.rulebook.specs.Notebook.{same_isin, of_day}
 use Rattle.rulebook.specs.Sheets.{counts, on_sheet, priced}
 use Rattle.ledger.specs.Mirrors.{is_key, Mirrors, sheet_key}
 use Rattle.ledger.specs.Reading.{Placed}
-use Rattle.ledger.proofs.Somewhere.{and_false, some_kept, some_and}
+use Rattle.ledger.proofs.Somewhere.{some_kept, some_and}
 
 and_assoc : (a b c : Bool) → (a && (b && c)) ≡ ((a && b) && c)
-and_assoc true b c = refl
-and_assoc false b c = refl
-
-none : (b c m : Bool) → (b && (c && (m && false))) ≡ false
-none b c m = ap (λ w. b && (c && w)) (and_false m) ∙ ap (λ w. b && w) (and_false c) ∙ and_false b
+and_assoc a b c = grind (arith, nat_tests)
 
 -- of one trade: i, of the security; d, of the day; c, counted; m, makes prices; x and y, its key by the security's place and by its own is the one;
 -- b, the key is in the stretch
 shape : (i d c m x y b : Bool) → (i ≡ true → x ≡ y) → (y ≡ true → b ≡ (i && d)) → ((i && (d && c)) && (m && x)) ≡ (b && (c && (m && y)))
-shape true d c m x true b f g =
-    ap (λ w. (d && c) && (m && w)) (f refl) ∙ sym (and_assoc d c (m && true)) ∙ ap (λ w. w && (c && (m && true))) (sym (g refl))
-shape false d c m x true b f g = ap (λ w. w && (c && (m && true))) (sym (g refl))
-shape true d c m x false b f g =
-    ap (λ w. (d && c) && (m && w)) (f refl) ∙ ap (λ w. (d && c) && w) (and_false m) ∙ and_false (d && c) ∙ sym (none b c m)
-shape false d c m x false b f g = sym (none b c m)
+shape i d c m x y b f g = grind (arith, nat_tests, f, g)
 
 module _ {K : Type 0} {lt : K → K → Bool} (laws : Laws lt) (key : ℕ → Record → K) (start : ℕ → ℕ → K) (day security : ℕ)
     (in_stretch : (p : ℕ) (t : Record) → (lt (key p t) (start day (security + 1)) && not (lt (key p t) (start day security))) ≡ (eqb p security && of_day day t))
@@ -41,9 +33,7 @@ module _ {K : Type 0} {lt : K → K → Bool} (laws : Laws lt) (key : ℕ → Re
     within k = lt k (start day (security + 1)) && not (lt k (start day security))
 
     is_sheet_key : (c m : Bool) (j k : K) → is_key lt (cond c (cond m (Some j) None) None) k ≡ (c && (m && same lt j k))
-    is_sheet_key true true j k = refl
-    is_sheet_key true false j k = refl
-    is_sheet_key false m j k = refl
+    is_sheet_key c m j k = grind (arith, nat_tests)
 
     module _ (isin : Isin) (k : K) (t : Record) (placed : same_isin t.report.isin isin ≡ eqb (place t.report.isin) security) where
       same_key : same_isin t.report.isin isin ≡ true → same lt (key security t) k ≡ same lt (key (place t.report.isin) t) k

@@ -1,21 +1,17 @@
 -- The totals of trades of which there is one more or one less.
-use Rattle.std.proofs.Common.{◌≡◌, ℕ, ◌+◌, ◌-◌, ◌^◌, ◌<◌, ◌≤◌, Bool, true, false, cond, List, [], ◌∷◌, ◌++◌, length, sum_by, filter, sym, refl, ap, ◌∙◌, arith}
-use Rattle.std.specs.List.{AllByRecursion as All}
+use Rattle.std.proofs.Common.{◌≡◌, ℕ, ◌+◌, ◌-◌, ◌^◌, ◌<◌, ◌≤◌, Bool, true, false, cond, List, [], ◌∷◌, ◌++◌, length, sum_by, filter, sym, refl, ap, ◌∙◌, ⊎_elim, arith}
 use Rattle.std.proofs.lemmas.List.Elements.{filter-append}
 use Rattle.std.proofs.ByRecursion.{All-weaker, all_kept_by, sum_by_le}
 use Rattle.std.proofs.lemmas.List.{length-append}
 use Rattle.std.proofs.lemmas.List.Sums.{sum_by-append, sum_by-cons, length-filter, count_by-le-length}
-use Rattle.std.proofs.lemmas.Bool.{true≢false}
+use Rattle.std.proofs.lemmas.Bool.{cases_Bool, cond-false, true≢false}
 use Rattle.rulebook.specs.declared.record.Record.{Record}
 use Rattle.ledger.specs.declared.totals.Totals.{Totals}
 use Rattle.ledger.specs.Totalled.{Small, Few}
 use Rattle.ledger.specs.Totals.{totals_of, turnover_of, with_report, without_report}
 
 same_totals : (a b : Totals) → a.number ≡ b.number → a.volume ≡ b.volume → a.turnover ≡ b.turnover → a ≡ b
-same_totals a b p q r =
-    ap (λ n. record { number = n; volume = a.volume; turnover = a.turnover }) p
-    ∙ ap (λ n. record { number = b.number; volume = n; turnover = a.turnover }) q
-    ∙ ap (λ n. record { number = b.number; volume = b.volume; turnover = n }) r
+same_totals a b p q r = λ i. record { number = p i; volume = q i; turnover = r i }
 
 -- one more in the middle of some
 sum_by_middle : (f : Record → ℕ) (xs ys : List Record) (t : Record) → sum_by f (xs ++ t ∷ ys) ≡ sum_by f (xs ++ ys) + f t
@@ -83,22 +79,11 @@ kept_without p xs ys t e =
     ∙ ap (λ b. filter p xs ++ cond b (t ∷ filter p ys) (filter p ys)) e
     ∙ sym (filter-append p xs ys)
 
-pub kept_none : (p : Record → Bool) (rs : List Record) → All (λ t. p t ≡ false) rs → filter p rs ≡ []
-kept_none p [] a = refl
-kept_none p (t ∷ rs) a = ap (λ b. cond b (t ∷ filter p rs) (filter p rs)) a.0 ∙ kept_none p rs a.1
-
 -- a test that passes less keeps the same of what another keeps
-kept_twice_cons :
-    (p q : Record → Bool) (t : Record) (rs : List Record) (b c : Bool) → p t ≡ b → q t ≡ c → (p t ≡ true → q t ≡ true)
-    → filter p (filter q rs) ≡ filter p rs
-    → filter p (cond c (t ∷ filter q rs) (filter q rs)) ≡ cond b (t ∷ filter p rs) (filter p rs)
-kept_twice_cons p q t rs true true e f h later =
-    ap (λ b. cond b (t ∷ filter p (filter q rs)) (filter p (filter q rs))) e ∙ ap (λ ts. t ∷ ts) later
-kept_twice_cons p q t rs false true e f h later =
-    ap (λ b. cond b (t ∷ filter p (filter q rs)) (filter p (filter q rs))) e ∙ later
-kept_twice_cons p q t rs true false e f h later = absurd (true≢false (sym (h e) ∙ f))
-kept_twice_cons p q t rs false false e f h later = later
-
 pub kept_twice : (p q : Record → Bool) (rs : List Record) → ((t : Record) → p t ≡ true → q t ≡ true) → filter p (filter q rs) ≡ filter p rs
 kept_twice p q [] h = refl
-kept_twice p q (t ∷ rs) h = kept_twice_cons p q t rs (p t) (q t) refl refl (h t) (kept_twice p q rs h)
+kept_twice p q (t ∷ rs) h =
+    elim (q t) as (λ b. (p t ≡ true → b ≡ true) → filter p (cond b (t ∷ filter q rs) (filter q rs)) ≡ cond (p t) (t ∷ filter p rs) (filter p rs)) [
+      | true ↦ λ e. ap (λ ts. cond (p t) (t ∷ ts) ts) (kept_twice p q rs h)
+      | false ↦ λ e. kept_twice p q rs h ∙ sym (cond-false (p t) _ _ (⊎_elim (λ (y : p t ≡ true). absurd (true≢false (sym (e y)))) (λ (y : p t ≡ false). y) (cases_Bool (p t))))
+    ] (h t)

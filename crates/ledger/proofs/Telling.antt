@@ -1,5 +1,5 @@
 -- A key tells of which code the trade is that is kept under it.
-use Rattle.std.proofs.Common.{◌≡◌, ℕ, Bool, true, false, cond, ◌&&◌, eqb, Some, None, Option, sym, refl, ap, subst}
+use Rattle.std.proofs.Common.{◌≡◌, ℕ, Bool, true, false, cond, Some, None, Option, sym, refl, ap, ◌∙◌}
 use Rattle.std.proofs.lemmas.Bool.{both_ways}
 use Rattle.identifier.specs.declared.isin.Isin.{Isin}
 use Rattle.register.specs.Fields.{by_fields}
@@ -38,29 +38,21 @@ only_counted lt true o k e = e
 only_counted lt false o k e = absurd (both_ways false refl e)
 
 module _ (code : Code) (t u : Record) (its : same_code t.code code ≡ true) where
-  same_code_from : u.code.day ≡ t.code.day → u.code.serial ≡ t.code.serial → same_code u.code code ≡ true
-  same_code_from d s = subst (λ n. (eqb n code.day && eqb u.code.serial code.serial) ≡ true) (sym d) (subst (λ n. (eqb t.code.day code.day && eqb n code.serial) ≡ true) (sym s) its)
+  -- a kind of key that shows the code
+  told : {K : Type 0} {lt : K → K → Bool} → Laws lt → (shown : K → Code) (k l : K) → shown k ≡ u.code → shown l ≡ t.code → same lt k l ≡ true → same_code u.code code ≡ true
+  told laws shown k l a b s = ap (λ c. same_code c code) (sym a ∙ ap shown (laws.same_is k l s) ∙ b) ∙ its
 
   pub price_tells : (sheet : Sheet) (place : Isin → ℕ) (security : ℕ) → is_key price_before (sheet_price sheet place u) (price_key security t) ≡ true → same_code u.code code ≡ true
   price_tells sheet place security e =
-      let k = price_key (place u.report.isin) u in
-      let l = price_key security t in
-      let s : same price_before k l ≡ true = only_kept price_before (makes_prices u.report) k l (only_counted price_before (counts sheet u.state) _ l e) in
-      let q : k ≡ l = price_laws.same_is k l s in
-      same_code_from (ap (λ i. i.day) q) (ap (λ i. i.serial) q)
+      told price_laws (λ k. record { day = k.day; serial = k.serial }) (price_key (place u.report.isin) u) (price_key security t) refl refl
+      (only_kept price_before (makes_prices u.report) _ _ (only_counted price_before (counts sheet u.state) _ _ e))
 
   pub execution_tells : (sheet : Sheet) (place : Isin → ℕ) (security : ℕ) → is_key execution_before (sheet_execution sheet place u) (execution_key security t) ≡ true → same_code u.code code ≡ true
   execution_tells sheet place security e =
-      let k = execution_key (place u.report.isin) u in
-      let l = execution_key security t in
-      let s : same execution_before k l ≡ true = only_kept execution_before (makes_prices u.report) k l (only_counted execution_before (counts sheet u.state) _ l e) in
-      let q : k ≡ l = execution_laws.same_is k l s in
-      same_code_from (ap (λ i. i.day) q) (ap (λ i. i.serial) q)
+      told execution_laws (λ k. record { day = k.day; serial = k.serial }) (execution_key (place u.report.isin) u) (execution_key security t) refl refl
+      (only_kept execution_before (makes_prices u.report) _ _ (only_counted execution_before (counts sheet u.state) _ _ e))
 
   pub waiting_tells : is_key (by_fields publication_fields) (waiting_key u) (publication_key t) ≡ true → same_code u.code code ≡ true
   waiting_tells e =
-      let k = publication_key u in
-      let l = publication_key t in
-      let s : same (by_fields publication_fields) k l ≡ true = only_kept (by_fields publication_fields) (waits u.state) k l e in
-      let q : k ≡ l = publication_laws.same_is k l s in
-      same_code_from (ap (λ i. i.day) q) (ap (λ i. i.serial) q)
+      told publication_laws (λ k. record { day = k.day; serial = k.serial }) (publication_key u) (publication_key t) refl refl
+      (only_kept (by_fields publication_fields) (waits u.state) _ _ e)

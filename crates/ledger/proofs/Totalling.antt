@@ -1,42 +1,51 @@
 -- How the totals follow the trades: one is counted in, one is counted out, and one changes.
-use Rattle.std.proofs.Common.{◌≡◌, ℕ, ◌<◌, ◌≤◌, Bool, true, false, cond, ◌&&◌, eqb, List, [], ◌∷◌, ◌++◌, map, length, get_or, set, filter, sym, refl, ap, ◌∙◌, subst, inl, inr, arith}
-use mathlib.Core.List.{map-append}
+use Rattle.std.proofs.Common.{◌≡◌, ℕ, ◌<◌, ◌≤◌, Bool, true, false, ◌&&◌, eqb, List, ◌∷◌, ◌++◌, map, length, get_or, set, filter, sym, refl, ap, ◌∙◌, subst, inl, inr, arith}
 use Rattle.std.specs.List.{AllByRecursion as All}
 use Rattle.std.proofs.lemmas.List.Elements.{filter-append}
 use Rattle.std.proofs.ByRecursion.{All-get_or, All-from_get_or, All-set, All-weaker}
 use Rattle.std.proofs.lemmas.List.{get_or-map, get_or-set_same, get_or-set_other, length-set, map-set, set-get_or, set_past}
-use Rattle.std.proofs.lemmas.Bool.{cases_Bool, cases_eq, cases_lt, eq-eqb, ne_eqb, and_from, and_left, and_right}
+use Rattle.std.proofs.Math.ListN.{get_or-map as get_or-map-past}
+use Rattle.std.proofs.lemmas.Bool.Decides.{nat_tests}
+use Rattle.std.proofs.lemmas.Bool.{cases_Bool, cases_eq, cases_lt}
 use Rattle.identifier.specs.declared.isin.Isin.{Isin}
 use Rattle.report.specs.declared.figures.Sheet.{Sheet}
 use Rattle.report.specs.declared.figures.Sheet.TheVariants.{Full, Public}
 use Rattle.report.specs.declared.report.Code.{Code}
 use Rattle.rulebook.specs.declared.record.Record.{Record}
-use Rattle.rulebook.specs.Notebook.{same_isin, same_code, of_day}
+use Rattle.rulebook.specs.Notebook.{same_isin}
 use Rattle.rulebook.specs.Sheets.{counts, on_sheet}
 use Rattle.rulebook.specs.Taken.{changed}
 use Rattle.ledger.specs.declared.listed.Listed.{Listed}
+use Rattle.ledger.specs.declared.slot.Slot.{Slot}
 use Rattle.ledger.specs.declared.totals.Totals.{Totals}
-use Rattle.ledger.specs.Totalled.{slots_on, slot_of, with_slot, counted_in, counted_out, with_trade, without_trade, at_slot, TotalsIn, TotalsOn, Apart, Distinct, Few, StandsAt, OnlyOne}
+use Rattle.ledger.specs.Totalled.{on, written_on, slots_on, slot_of, with_slot, with_trade, without_trade, at_slot, TotalsIn, TotalsOn, Apart, Distinct, Few, StandsAt, OnlyOne}
 use Rattle.ledger.specs.Totals.{no_trades, totals_of, with_report, without_report}
+use Rattle.ledger.proofs.Changing.{changed_one}
 use Rattle.ledger.proofs.Isins.{apart_places, isin_moved}
+use Rattle.ledger.proofs.OnSheet.{slot_at}
 use Rattle.ledger.proofs.Sums.{few_kept, totals_with, totals_without, totals_same, kept_with, kept_without}
 
--- a write in a slot leaves the security and the other sheet
-put_security : (slot : ℕ) (sheet : Sheet) (v : Totals) (l : Listed) → (with_slot slot sheet v l).security ≡ l.security
-put_security slot Full v l = refl
-put_security slot Public v l = refl
+-- what is written on a sheet, and the other sheet stays
+on_written : (sheet : Sheet) (v : Totals) (s : Slot) → on sheet (written_on sheet v s) ≡ v
+on_written Full v s = refl
+on_written Public v s = refl
+
+on_other : (sheet other : Sheet) (v : Totals) (s : Slot) → (other ≡ sheet → ⊥) → on other (written_on sheet v s) ≡ on other s
+on_other Full Full v s ne = absurd (ne refl)
+on_other Full Public v s ne = refl
+on_other Public Full v s ne = refl
+on_other Public Public v s ne = absurd (ne refl)
 
 put_slots : (slot : ℕ) (sheet : Sheet) (v : Totals) (l : Listed) → slots_on sheet (with_slot slot sheet v l) ≡ set (slots_on sheet l) slot v
-put_slots slot Full v l = refl
-put_slots slot Public v l = refl
+put_slots slot sheet v l = map-set (on sheet) l.slots slot _ ∙ ap (set (slots_on sheet l) slot) (on_written sheet v _)
 
 put_other :
     (slot : ℕ) (sheet other : Sheet) (v : Totals) (l : Listed) → (other ≡ sheet → ⊥)
     → slots_on other (with_slot slot sheet v l) ≡ slots_on other l
-put_other slot Full Full v l ne = absurd (ne refl)
-put_other slot Full Public v l ne = refl
-put_other slot Public Full v l ne = refl
-put_other slot Public Public v l ne = absurd (ne refl)
+put_other slot sheet other v l ne =
+    map-set (on other) l.slots slot _
+    ∙ ap (set (slots_on other l) slot) (on_other sheet other v _ ne ∙ sym (slot_at other l.slots slot))
+    ∙ set-get_or (slots_on other l) slot no_trades
 
 -- the trades of a security that a sheet counts in a slot
 abbrev counted_at : Sheet → List ℕ → List Record → Listed → ℕ → List Record
@@ -76,8 +85,7 @@ module _ (sheet : Sheet) (days : List ℕ) (rs rs' : List Record) (l : Listed) (
               omega (arith, so.wide);
           each = λ k h.
               ap (λ ts. get_or ts k no_trades) (put_slots slot sheet v l)
-              ∙ slot_written k h
-              ∙ ap (λ s. totals_of (filter (on_sheet s.isin (get_or days k 0) sheet) rs')) (sym (put_security slot sheet v l));
+              ∙ slot_written k h;
         }
 
 -- one is written over, and the others stay
@@ -98,102 +106,98 @@ module _ (sheet : Sheet) (ls : List Listed) (days : List ℕ) (t : Record) (plac
     counted_there :
         (d : Listed) → counts sheet t.state ≡ true
         → on_sheet (get_or ls place d).security.isin (get_or days slot 0) sheet t ≡ true
-    counted_there d c =
-        and_from (same_isin t.report.isin (get_or ls place d).security.isin) (of_day (get_or days slot 0) t && counts sheet t.state)
-        (at.isin d)
-        (and_from (of_day (get_or days slot 0) t) (counts sheet t.state) (eq-eqb t.code.day (get_or days slot 0) at.day) c)
+    counted_there d c = grind (arith, nat_tests, at.isin d, at.day, c)
 
     -- at no other place
     other_place :
         (d : Listed) (day k : ℕ) → Apart (map (λ l. l.security) ls) → k < length ls → (k ≡ place → ⊥)
         → on_sheet (get_or ls k d).security.isin day sheet t ≡ false
     other_place d day k apart h ne =
-        and_left (same_isin t.report.isin (get_or ls k d).security.isin) (of_day day t && counts sheet t.state)
-        (isin_moved t.report.isin (get_or ls place d).security.isin (get_or ls k d).security.isin false (at.isin d)
-        (apart_places ls place k d apart at.placed h (λ e. ne (sym e))))
+        let other = isin_moved t.report.isin (get_or ls place d).security.isin (get_or ls k d).security.isin false (at.isin d)
+        (apart_places ls place k d apart at.placed h (λ e. ne (sym e))) in
+        grind (arith, nat_tests, other)
 
     -- and in no other slot
     other_slot :
         (d : Listed) (k : ℕ) → Distinct days → k < length days → (k ≡ slot → ⊥)
         → on_sheet (get_or ls place d).security.isin (get_or days k 0) sheet t ≡ false
     other_slot d k distinct h ne =
-        and_right (same_isin t.report.isin (get_or ls place d).security.isin) (of_day (get_or days k 0) t && counts sheet t.state)
-        (and_left (of_day (get_or days k 0) t) (counts sheet t.state)
-        (ne_eqb t.code.day (get_or days k 0) (λ e. ne (distinct k slot h at.held (sym e ∙ at.day)))))
+        let other : t.code.day ≡ get_or days k 0 → ⊥ = λ e. ne (distinct k slot h at.held (sym e ∙ at.day)) in
+        grind (arith, nat_tests, other)
 
 -- one trade more or less, between the others
 module _ (sheet : Sheet) (ls : List Listed) (days : List ℕ) (xs ys : List Record) (t : Record) (place slot : ℕ)
     (at : StandsAt ls days t place slot) (apart : Apart (map (λ l. l.security) ls)) (distinct : Distinct days)
     (counted : counts sheet t.state ≡ true)
   where
+    -- from some trades to others, which differ only where the trade is counted
+    moved :
+        (rs rs' : List Record) (d : Listed) (v : Totals)
+        → ((isin : Isin) (day : ℕ) → on_sheet isin day sheet t ≡ false → filter (on_sheet isin day sheet) rs ≡ filter (on_sheet isin day sheet) rs')
+        → v ≡ totals_of (counted_at sheet days rs' (get_or ls place d) slot) → TotalsOn sheet ls days rs
+        → TotalsOn sheet (set ls place (with_slot slot sheet v (get_or ls place d))) days rs'
+    moved rs rs' d v same is so =
+        let l = get_or ls place d in
+        all_but (TotalsIn sheet days rs') ls place d (with_slot slot sheet v l) at.placed
+        (totals_written sheet days rs rs' l slot v (All-get_or (TotalsIn sheet days rs) ls place d at.placed so) at.held is
+        (λ k h ne. same l.security.isin (get_or days k 0) (other_slot sheet ls days t place slot at d k distinct h ne)))
+        (λ k h ne.
+        totals_stay sheet days rs rs' (get_or ls k d) (All-get_or (TotalsIn sheet days rs) ls k d h so)
+        (λ j i. ap totals_of (same (get_or ls k d).security.isin (get_or days j 0)
+        (other_place sheet ls days t place slot at d (get_or days j 0) k apart h ne))))
+
+    kept_there : (d : Listed) → counted_at sheet days (xs ++ t ∷ ys) (get_or ls place d) slot ≡ counted_at sheet days xs (get_or ls place d) slot ++ t ∷ counted_at sheet days ys (get_or ls place d) slot
+    kept_there d =
+        kept_with (on_sheet (get_or ls place d).security.isin (get_or days slot 0) sheet) xs ys t (counted_there sheet ls days t place slot at d counted)
+
     -- a trade that the sheet counts comes in
     pub keeps_count_in :
         (d : Listed) → Few (xs ++ t ∷ ys) → TotalsOn sheet ls days (xs ++ ys)
         → TotalsOn sheet (with_trade ls place slot sheet t.report d) days (xs ++ t ∷ ys)
     keeps_count_in d few so =
-        let l = get_or ls place d in
-        let p : Record → Bool = on_sheet l.security.isin (get_or days slot 0) sheet in
+        let p : Record → Bool = on_sheet (get_or ls place d).security.isin (get_or days slot 0) sheet in
         let here = All-get_or (TotalsIn sheet days (xs ++ ys)) ls place d at.placed so in
-        let kept : filter p (xs ++ t ∷ ys) ≡ filter p xs ++ t ∷ filter p ys =
-        kept_with p xs ys t (counted_there sheet ls days t place slot at d counted) in
-        let few' : Few (filter p xs ++ t ∷ filter p ys) = subst Few kept (few_kept p (xs ++ t ∷ ys) few) in
-        all_but (TotalsIn sheet days (xs ++ t ∷ ys)) ls place d (counted_in slot sheet t.report l) at.placed
-        (totals_written sheet days (xs ++ ys) (xs ++ t ∷ ys) l slot (with_report (slot_of slot sheet l) t.report) here at.held
+        moved (xs ++ ys) (xs ++ t ∷ ys) d _ (λ isin day out. sym (kept_without (on_sheet isin day sheet) xs ys t out))
         (ap (λ v. with_report v t.report) (here.each slot at.held ∙ ap totals_of (filter-append p xs ys))
-        ∙ totals_with (filter p xs) (filter p ys) t few'
-        ∙ ap totals_of (sym kept))
-        (λ k h ne. sym (kept_without (on_sheet l.security.isin (get_or days k 0) sheet) xs ys t
-        (other_slot sheet ls days t place slot at d k distinct h ne))))
-        (λ k h ne.
-        totals_stay sheet days (xs ++ ys) (xs ++ t ∷ ys) (get_or ls k d) (All-get_or (TotalsIn sheet days (xs ++ ys)) ls k d h so)
-        (λ j i. ap totals_of (sym (kept_without (on_sheet (get_or ls k d).security.isin (get_or days j 0) sheet) xs ys t
-        (other_place sheet ls days t place slot at d (get_or days j 0) k apart h ne)))))
+        ∙ totals_with (filter p xs) (filter p ys) t (subst Few (kept_there d) (few_kept p (xs ++ t ∷ ys) few))
+        ∙ ap totals_of (sym (kept_there d)))
+        so
 
     -- and goes out again
     pub keeps_count_out :
         (d : Listed) → TotalsOn sheet ls days (xs ++ t ∷ ys)
         → TotalsOn sheet (without_trade ls place slot sheet t.report d) days (xs ++ ys)
     keeps_count_out d so =
-        let l = get_or ls place d in
-        let p : Record → Bool = on_sheet l.security.isin (get_or days slot 0) sheet in
+        let p : Record → Bool = on_sheet (get_or ls place d).security.isin (get_or days slot 0) sheet in
         let here = All-get_or (TotalsIn sheet days (xs ++ t ∷ ys)) ls place d at.placed so in
-        let kept : filter p (xs ++ t ∷ ys) ≡ filter p xs ++ t ∷ filter p ys =
-        kept_with p xs ys t (counted_there sheet ls days t place slot at d counted) in
-        all_but (TotalsIn sheet days (xs ++ ys)) ls place d (counted_out slot sheet t.report l) at.placed
-        (totals_written sheet days (xs ++ t ∷ ys) (xs ++ ys) l slot (without_report (slot_of slot sheet l) t.report) here at.held
-        (ap (λ v. without_report v t.report) (here.each slot at.held ∙ ap totals_of kept)
+        moved (xs ++ t ∷ ys) (xs ++ ys) d _ (λ isin day out. kept_without (on_sheet isin day sheet) xs ys t out)
+        (ap (λ v. without_report v t.report) (here.each slot at.held ∙ ap totals_of (kept_there d))
         ∙ totals_without (filter p xs) (filter p ys) t
         ∙ ap totals_of (sym (filter-append p xs ys)))
-        (λ k h ne. kept_without (on_sheet l.security.isin (get_or days k 0) sheet) xs ys t
-        (other_slot sheet ls days t place slot at d k distinct h ne)))
-        (λ k h ne.
-        totals_stay sheet days (xs ++ t ∷ ys) (xs ++ ys) (get_or ls k d) (All-get_or (TotalsIn sheet days (xs ++ t ∷ ys)) ls k d h so)
-        (λ j i. ap totals_of (kept_without (on_sheet (get_or ls k d).security.isin (get_or days j 0) sheet) xs ys t
-        (other_place sheet ls days t place slot at d (get_or days j 0) k apart h ne))))
+        so
+
+-- as many trades in each slot of each security
+stay_all :
+    (sheet : Sheet) (ls : List Listed) (days : List ℕ) (rs rs' : List Record)
+    → ((l : Listed) (slot : ℕ) → totals_of (counted_at sheet days rs l slot) ≡ totals_of (counted_at sheet days rs' l slot))
+    → TotalsOn sheet ls days rs → TotalsOn sheet ls days rs'
+stay_all sheet ls days rs rs' same so =
+    All-weaker (TotalsIn sheet days rs) (TotalsIn sheet days rs') (λ l in'. totals_stay sheet days rs rs' l in' (λ slot h. same l slot)) ls so
 
 -- a trade that the sheet does not count changes no totals, whether it is there or not
-uncounted : (sheet : Sheet) (t : Record) (isin : Isin) (day : ℕ) → counts sheet t.state ≡ false → on_sheet isin day sheet t ≡ false
-uncounted sheet t isin day c =
-    and_right (same_isin t.report.isin isin) (of_day day t && counts sheet t.state) (and_right (of_day day t) (counts sheet t.state) c)
-
 module _ (sheet : Sheet) (ls : List Listed) (days : List ℕ) (xs ys : List Record) (t : Record)
     (out : counts sheet t.state ≡ false)
   where
+    uncounted : (l : Listed) (slot : ℕ) → totals_of (counted_at sheet days (xs ++ t ∷ ys) l slot) ≡ totals_of (counted_at sheet days (xs ++ ys) l slot)
+    uncounted l slot =
+        let passed_over : on_sheet l.security.isin (get_or days slot 0) sheet t ≡ false = grind (arith, nat_tests, out) in
+        ap totals_of (kept_without (on_sheet l.security.isin (get_or days slot 0) sheet) xs ys t passed_over)
+
     pub keeps_uncounted_in : TotalsOn sheet ls days (xs ++ ys) → TotalsOn sheet ls days (xs ++ t ∷ ys)
-    keeps_uncounted_in so =
-        All-weaker (TotalsIn sheet days (xs ++ ys)) (TotalsIn sheet days (xs ++ t ∷ ys))
-        (λ l in'. totals_stay sheet days (xs ++ ys) (xs ++ t ∷ ys) l in' (λ j h.
-        ap totals_of (sym (kept_without (on_sheet l.security.isin (get_or days j 0) sheet) xs ys t
-        (uncounted sheet t l.security.isin (get_or days j 0) out)))))
-        ls so
+    keeps_uncounted_in so = stay_all sheet ls days (xs ++ ys) (xs ++ t ∷ ys) (λ l slot. sym (uncounted l slot)) so
 
     pub keeps_uncounted_out : TotalsOn sheet ls days (xs ++ t ∷ ys) → TotalsOn sheet ls days (xs ++ ys)
-    keeps_uncounted_out so =
-        All-weaker (TotalsIn sheet days (xs ++ t ∷ ys)) (TotalsIn sheet days (xs ++ ys))
-        (λ l in'. totals_stay sheet days (xs ++ t ∷ ys) (xs ++ ys) l in' (λ j h.
-        ap totals_of (kept_without (on_sheet l.security.isin (get_or days j 0) sheet) xs ys t
-        (uncounted sheet t l.security.isin (get_or days j 0) out))))
-        ls so
+    keeps_uncounted_out so = stay_all sheet ls days (xs ++ t ∷ ys) (xs ++ ys) uncounted so
 
 -- what is written on one sheet leaves the other
 pub keeps_other_sheet :
@@ -210,8 +214,7 @@ keeps_other_sheet sheet other ls days rs place slot v d ne so =
             wide = subst (λ ts. length days ≤ length ts) (sym (put_other slot sheet other v l ne)) here.wide;
             each = λ k i.
                 ap (λ ts. get_or ts k no_trades) (put_other slot sheet other v l ne)
-                ∙ here.each k i
-                ∙ ap (λ s. totals_of (filter (on_sheet s.isin (get_or days k 0) other) rs)) (sym (put_security slot sheet v l));
+                ∙ here.each k i;
           })
           so
       | inr h ↦ subst (λ ms. TotalsOn other ms days rs) (sym (set_past ls place (with_slot slot sheet v (get_or ls place d)) h)) so
@@ -222,30 +225,9 @@ pub securities_stay :
     (ls : List Listed) (place slot : ℕ) (sheet : Sheet) (v : Totals) (d : Listed)
     → map (λ l. l.security) (set ls place (with_slot slot sheet v (get_or ls place d))) ≡ map (λ l. l.security) ls
 securities_stay ls place slot sheet v d =
-    elim (cases_lt place (length ls)) [
-      | inl h ↦
-          map-set (λ l. l.security) ls place (with_slot slot sheet v (get_or ls place d))
-          ∙ ap (λ s. set (map (λ l. l.security) ls) place s)
-          (put_security slot sheet v (get_or ls place d) ∙ sym (get_or-map (λ l. l.security) ls place d d.security h))
-          ∙ set-get_or (map (λ l. l.security) ls) place d.security
-      | inr h ↦ ap (map (λ l. l.security)) (set_past ls place (with_slot slot sheet v (get_or ls place d)) h)
-    ]
-
--- the trade of a code changes, and no other
-changed_none :
-    (code : Code) (g : Record → Record) (rs : List Record) → All (λ t. same_code t.code code ≡ false) rs → changed code g rs ≡ rs
-changed_none code g [] a = refl
-changed_none code g (t ∷ rs) a =
-    ap (λ b. cond b (g t) t ∷ changed code g rs) a.0 ∙ ap (λ ts. t ∷ ts) (changed_none code g rs a.1)
-
-pub changed_one :
-    (code : Code) (g : Record → Record) (xs : List Record) (t : Record) (ys : List Record) → OnlyOne code xs t ys
-    → changed code g (xs ++ t ∷ ys) ≡ xs ++ g t ∷ ys
-changed_one code g xs t ys one =
-    map-append (λ u. cond (same_code u.code code) (g u) u) xs (t ∷ ys)
-    ∙ ap (λ zs. zs ++ changed code g (t ∷ ys)) (changed_none code g xs one.before)
-    ∙ ap (λ b. xs ++ cond b (g t) t ∷ changed code g ys) one.its
-    ∙ ap (λ zs. xs ++ g t ∷ zs) (changed_none code g ys one.behind)
+    map-set (λ l. l.security) ls place _
+    ∙ ap (set (map (λ l. l.security) ls) place) (sym (get_or-map-past (λ l. l.security) ls place d))
+    ∙ set-get_or (map (λ l. l.security) ls) place d.security
 
 -- of two trades with one report that a test keeps or leaves alike, either may stand there
 same_either :
@@ -291,15 +273,10 @@ module _ (sheet : Sheet) (ls : List Listed) (days : List ℕ) (code : Code) (g :
         → TotalsOn sheet ls days (xs ++ t ∷ ys) → TotalsOn sheet ls days (changed code g (xs ++ t ∷ ys))
     keeps_changed_same same-c same-r same_s so =
         as_changed ls
-        (All-weaker (TotalsIn sheet days (xs ++ t ∷ ys)) (TotalsIn sheet days (xs ++ g t ∷ ys))
-        (λ l in'. totals_stay sheet days (xs ++ t ∷ ys) (xs ++ g t ∷ ys) l in' (λ j h.
-        let p : Record → Bool = on_sheet l.security.isin (get_or days j 0) sheet in
-        let same : p (g t) ≡ p t =
-        ap (λ r. same_isin r.isin l.security.isin && (of_day (get_or days j 0) (g t) && counts sheet (g t).state)) same-r
-        ∙ ap (λ c. same_isin t.report.isin l.security.isin && (eqb c.day (get_or days j 0) && counts sheet (g t).state)) same-c
-        ∙ ap (λ b. same_isin t.report.isin l.security.isin && (of_day (get_or days j 0) t && b)) same_s in
-        same_either p xs ys t (g t) same (sym same-r)))
-        ls so)
+        (stay_all sheet ls days (xs ++ t ∷ ys) (xs ++ g t ∷ ys) (λ l slot.
+        same_either (on_sheet l.security.isin (get_or days slot 0) sheet) xs ys t (g t)
+        (λ i. same_isin (same-r i).isin l.security.isin && (eqb (same-c i).day (get_or days slot 0) && same_s i)) (sym same-r))
+        so)
 
 -- the totals at a place, in a slot
 pub totals_there :

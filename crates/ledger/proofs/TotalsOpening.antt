@@ -1,54 +1,46 @@
 -- How the totals move on when a day is opened.
-use Rattle.std.proofs.Common.{◌≡◌, ℕ, zero, suc, ◌<◌, Bool, true, false, cond, ◌&&◌, eqb, List, [], ◌∷◌, map, length, get_or, take, filter, sym, refl, ap, ◌∙◌, subst, arith}
+use Rattle.std.proofs.Common.{◌≡◌, ℕ, zero, suc, ◌<◌, Bool, true, false, List, [], ◌∷◌, map, length, get_or, take, filter, sym, refl, ap, ◌∙◌, subst, arith}
 use Rattle.std.specs.List.{AllByRecursion as All}
 use Rattle.std.proofs.ByRecursion.{All-get_or, all_kept_by, All-map, All-weaker}
 use Rattle.std.proofs.lemmas.List.{get_or-take, length-map, length-take, take-map}
-use Rattle.std.proofs.lemmas.Bool.{and_left, and_parts, and_right, eq-eqb, eqb-true, ne_eqb}
+use Rattle.std.proofs.lemmas.Bool.Decides.{nat_tests}
 use Rattle.deferral.specs.declared.opened.Opened.{Opened}
 use Rattle.identifier.specs.declared.isin.Isin.{Isin}
 use Rattle.report.specs.declared.figures.Sheet.{Sheet}
 use Rattle.report.specs.declared.figures.Sheet.TheVariants.{Full, Public}
+use Rattle.register.proofs.Members.{kept_none}
 use Rattle.rulebook.specs.declared.record.Record.{Record}
-use Rattle.rulebook.specs.Notebook.{same_isin, among, of_day}
-use Rattle.rulebook.specs.Sheets.{counts, on_sheet}
+use Rattle.rulebook.specs.Notebook.{among}
+use Rattle.rulebook.specs.Sheets.{on_sheet}
 use Rattle.ledger.specs.declared.listed.Listed.{Listed}
-use Rattle.ledger.specs.declared.totals.Totals.{Totals}
-use Rattle.ledger.specs.Totalled.{slots_on, moved_slots, moved_on, TotalsIn, TotalsOn, Distinct}
+use Rattle.ledger.specs.Totalled.{slot_of, moved_on, TotalsIn, TotalsOn, Distinct}
 use Rattle.ledger.specs.Totals.{no_trades, totals_of}
-use Rattle.ledger.proofs.Sums.{kept_none, kept_twice}
+use Rattle.ledger.proofs.OnSheet.{slot_at}
+use Rattle.ledger.proofs.Sums.{kept_twice}
 
-moved_slots_on : (sheet : Sheet) (l : Listed) → slots_on sheet (moved_on l) ≡ moved_slots (slots_on sheet l)
-moved_slots_on Full l = refl
-moved_slots_on Public l = refl
+-- the new day's slot has no trades, and behind it stand the first two as they were
+moved_first : (sheet : Sheet) (l : Listed) → slot_of 0 sheet (moved_on l) ≡ no_trades
+moved_first Full l = refl
+moved_first Public l = refl
 
--- behind the new day's slot stand the first two as they were
-moved_behind : (ts : List Totals) (slot : ℕ) → slot < 2 → get_or (moved_slots ts) (suc slot) no_trades ≡ get_or ts slot no_trades
-moved_behind ts zero h = refl
-moved_behind ts (suc zero) h = refl
-moved_behind ts (suc (suc slot)) h = absurd (omega arith)
+moved_behind : (sheet : Sheet) (l : Listed) (slot : ℕ) → slot < 2 → slot_of (suc slot) sheet (moved_on l) ≡ slot_of slot sheet l
+moved_behind sheet l zero h = sym (slot_at sheet l.slots 0)
+moved_behind sheet l (suc zero) h = sym (slot_at sheet l.slots 1)
+moved_behind sheet l (suc (suc slot)) h = absurd (omega arith)
 
 -- a day that stands among some
-among_cons : (o : Opened) (os : List Opened) (day : ℕ) (b : Bool) → among os day ≡ true → cond b true (among os day) ≡ true
-among_cons o os day true h = refl
-among_cons o os day false h = h
-
 among_at : (os : List Opened) (slot day : ℕ) → slot < length os → day ≡ get_or (map (λ o. o.day) os) slot 0 → among os day ≡ true
 among_at [] slot day h e = absurd (omega arith)
-among_at (o ∷ os) zero day h e = ap (λ b. cond b true (among os day)) (eq-eqb o.day day (sym e))
-among_at (o ∷ os) (suc slot) day h e = among_cons o os day (eqb o.day day) (among_at os slot day (omega arith) e)
+among_at (o ∷ os) zero day h e = grind (arith, nat_tests)
+among_at (o ∷ os) (suc slot) day h e = grind (arith, nat_tests, among_at os slot day (omega arith) e)
 
 -- a trade of another day is not counted
 other_day : (sheet : Sheet) (isin : Isin) (day : ℕ) (t : Record) → t.code.day < day → on_sheet isin day sheet t ≡ false
-other_day sheet isin day t h =
-    and_right (same_isin t.report.isin isin) (of_day day t && counts sheet t.state)
-    (and_left (of_day day t) (counts sheet t.state) (ne_eqb t.code.day day (λ e. omega arith)))
+other_day sheet isin day t h = grind (arith, nat_tests)
 
 -- one that is counted is of the day
 its_day : (sheet : Sheet) (isin : Isin) (day : ℕ) (t : Record) → on_sheet isin day sheet t ≡ true → t.code.day ≡ day
-its_day sheet isin day t h =
-    eqb-true t.code.day day
-    (and_parts (of_day day t) (counts sheet t.state)
-    (and_parts (same_isin t.report.isin isin) (of_day day t && counts sheet t.state) h).1).0
+its_day sheet isin day t h = grind (arith, nat_tests)
 
 module _ (sheet : Sheet) (o : Opened) (os : List Opened) (rs : List Record) (later : All (λ t. t.code.day < o.day) rs) where
   abbrev held_then : Record → Bool
@@ -57,10 +49,11 @@ module _ (sheet : Sheet) (o : Opened) (os : List Opened) (rs : List Record) (lat
   opened_slot :
       (l : Listed) → TotalsIn sheet (map (λ o. o.day) os) rs l
       → (slot : ℕ) → slot < length (map (λ o. o.day) (take 3 (o ∷ os)))
-      → get_or (moved_slots (slots_on sheet l)) slot no_trades
+      → slot_of slot sheet (moved_on l)
       ≡ totals_of (filter (on_sheet l.security.isin (get_or (map (λ o. o.day) (take 3 (o ∷ os))) slot 0) sheet) (filter held_then rs))
   opened_slot l so zero h =
-      ap totals_of
+      moved_first sheet l
+      ∙ ap totals_of
       (sym (kept_none (on_sheet l.security.isin o.day sheet) (filter held_then rs)
       (all_kept_by held_then (λ t. on_sheet l.security.isin o.day sheet t ≡ false) rs
       (All-weaker (λ t. t.code.day < o.day) (λ t. on_sheet l.security.isin o.day sheet t ≡ false)
@@ -72,7 +65,7 @@ module _ (sheet : Sheet) (o : Opened) (os : List Opened) (rs : List Record) (lat
       let day : get_or (map (λ o. o.day) (take 2 os)) slot 0 ≡ get_or (map (λ o. o.day) os) slot 0 =
       ap (λ ds. get_or ds slot 0) (sym (take-map (λ o. o.day) 2 os)) ∙ get_or-take 2 (map (λ o. o.day) os) slot 0 few in
       let p : Record → Bool = on_sheet l.security.isin (get_or (map (λ o. o.day) (take 2 os)) slot 0) sheet in
-      moved_behind (slots_on sheet l) slot few
+      moved_behind sheet l slot few
       ∙ so.each slot held
       ∙ ap (λ d. totals_of (filter (on_sheet l.security.isin d sheet) rs)) (sym day)
       ∙ ap totals_of (sym (kept_twice p held_then rs (λ t e.
@@ -88,10 +81,8 @@ module _ (sheet : Sheet) (o : Opened) (os : List Opened) (rs : List Record) (lat
       All-map P moved_on ls
       (All-weaker (TotalsIn sheet (map (λ o. o.day) os) rs) (λ l. P (moved_on l)) (λ l in'.
       record {
-        wide =
-            let three : length (slots_on sheet (moved_on l)) ≡ 3 = ap length (moved_slots_on sheet l) in
-            omega (arith, length-map (take 3 (o ∷ os)) (λ o. o.day), length-take 3 (o ∷ os));
-        each = λ slot h. ap (λ ts. get_or ts slot no_trades) (moved_slots_on sheet l) ∙ opened_slot l in' slot h;
+        wide = omega (arith, length-map (take 3 (o ∷ os)) (λ o. o.day), length-take 3 (o ∷ os));
+        each = λ slot h. opened_slot l in' slot h;
       })
       ls so)
 

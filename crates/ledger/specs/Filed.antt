@@ -6,8 +6,8 @@ use Rattle.rulebook.specs.declared.record.Record.{Record}
 use Rattle.rulebook.specs.Lists.{first_of, numbers}
 use Rattle.rulebook.specs.Notebook.{same_code}
 use Rattle.rulebook.specs.Taken.{changed}
-use Rattle.ledger.specs.declared.days.HeldDay.{HeldDay}
-use Rattle.ledger.specs.Days.{code_in}
+use Rattle.ledger.specs.declared.held_day.HeldDay.{HeldDay}
+use Rattle.ledger.specs.HeldDay.{code_in}
 
 -- the codes that a day has given out, in the order of their serials
 abbrev pub codes_of : HeldDay → List Code

@@ -1,11 +1,12 @@
 pub mod Days
 pub mod Filed
+pub mod HeldDay
 pub mod Keys
 pub mod Listing
 pub mod Mirrors
+pub mod Packed
 pub mod Places
 pub mod Reading
 pub mod SheetKeys
-pub mod Slots
 pub mod Totalled
 pub mod Totals

@@ -5,15 +5,15 @@ use Rattle.rulebook.specs.Notebook.{same_isin}
 use Rattle.rulebook.specs.Taken.{with_security}
 use Rattle.ledger.specs.declared.listed.Listed.{Listed}
 use Rattle.ledger.specs.Places.{place_of}
-use Rattle.ledger.specs.Totals.{no_trades}
+use Rattle.ledger.specs.Totalled.{no_slot}
 
 -- a security that has no trades yet
 abbrev pub untraded : Security → Listed
-untraded s = record { security = s; full = replicate 3 no_trades; public = replicate 3 no_trades }
+untraded s = record { security = s; slots = replicate 3 no_slot }
 
 -- a security written over another, whose totals stay
 abbrev pub written_over : Security → Listed → Listed
-written_over s l = record { security = s; full = l.full; public = l.public }
+written_over s l = record { security = s; slots = l.slots }
 
 abbrev pub with_listing : Security → List Listed → List Listed
 with_listing s [] = untraded s ∷ []

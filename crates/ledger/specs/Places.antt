@@ -1,13 +1,9 @@
 -- The places of the listed securities.
-use Rattle.std.specs.Prelude.{ℕ, ◌+◌, cond, List, [], ◌∷◌, Some, None, Option}
+use Rattle.std.specs.Prelude.{ℕ, List, Option, position}
 use Rattle.identifier.specs.declared.isin.Isin.{Isin}
 use Rattle.rulebook.specs.Notebook.{same_isin}
 use Rattle.ledger.specs.declared.listed.Listed.{Listed}
 
--- counted from a place on
-abbrev pub place_from : ℕ → List Listed → Isin → Option ℕ
-place_from place [] isin = None
-place_from place (x ∷ xs) isin = cond (same_isin x.security.isin isin) (Some place) (place_from (place + 1) xs isin)
-
+-- that of the first that has the ISIN
 abbrev pub place_of : List Listed → Isin → Option ℕ
-place_of xs isin = place_from 0 xs isin
+place_of xs isin = position (λ l. same_isin l.security.isin isin) xs

@@ -1,6 +1,7 @@
 -- What is read off the keys of a sheet, held to the trades.
-use Rattle.std.specs.Prelude.{◌≡◌, ℕ, ◌<◌, List, Some, None, filter, Option, ◌==◌}
+use Rattle.std.specs.Prelude.{◌≡◌, ℕ, ◌<◌, List, filter, Option, ◌==◌}
 use Rattle.std.specs.List.{AllByRecursion}
+use Rattle.std.specs.Option.{option_map}
 use Rattle.identifier.specs.declared.isin.Isin.{Isin}
 use Rattle.report.specs.declared.figures.Sheet.{Sheet}
 use Rattle.rulebook.specs.declared.record.Record.{Record}
@@ -27,8 +28,7 @@ ReadsOff figure keys memory day security r =
     (sheet : Sheet) (place : Isin → ℕ) (isin : Isin) (rs : List Record) → security < 255 → SheetStands keys memory → SheetMirrors sheet place rs keys memory → Placed place isin security rs → r ≡ figure (filter (on_sheet isin day sheet) rs)
 
 abbrev pub serial_of : Option Record → Option ℕ
-serial_of None = None
-serial_of (Some t) = Some t.code.serial
+serial_of o = option_map (λ t. t.code.serial) o
 
 -- the serials of the trades that give the opening and the last price
 abbrev pub opening_of : List Record → Option ℕ

@@ -11,21 +11,33 @@ use Rattle.rulebook.specs.Lists.{first_of}
 use Rattle.rulebook.specs.Notebook.{same_isin, same_code}
 use Rattle.rulebook.specs.Sheets.{on_sheet}
 use Rattle.ledger.specs.declared.listed.Listed.{Listed}
+use Rattle.ledger.specs.declared.slot.Slot.{Slot}
 use Rattle.ledger.specs.declared.totals.Totals.{Totals}
 use Rattle.ledger.specs.Totals.{no_trades, totals_of, turnover_of, with_report, without_report}
 
+-- the totals of a held day, on each sheet
+abbrev pub no_slot : Slot
+no_slot = record { full = no_trades; public = no_trades }
+
+abbrev pub on : Sheet → Slot → Totals
+on Full s = s.full
+on Public s = s.public
+
+abbrev pub written_on : Sheet → Totals → Slot → Slot
+written_on Full totals s = record { full = totals; public = s.public }
+written_on Public totals s = record { full = s.full; public = totals }
+
 -- a sheet's totals of each held day
 abbrev pub slots_on : Sheet → Listed → List Totals
-slots_on Full l = l.full
-slots_on Public l = l.public
+slots_on sheet l = map (on sheet) l.slots
 
 -- none past the last slot
 abbrev pub slot_of : ℕ → Sheet → Listed → Totals
 slot_of slot sheet l = slice_index_or (slots_on sheet l) slot no_trades
 
 abbrev pub with_slot : ℕ → Sheet → Totals → Listed → Listed
-with_slot slot Full totals l = record { security = l.security; full = slice_set l.full slot totals; public = l.public }
-with_slot slot Public totals l = record { security = l.security; full = l.full; public = slice_set l.public slot totals }
+with_slot slot sheet totals l =
+    record { security = l.security; slots = slice_set l.slots slot (written_on sheet totals (slice_index_or l.slots slot no_slot)) }
 
 -- a trade more in a slot, and a trade less
 abbrev pub counted_in : ℕ → Sheet → Report → Listed → Listed
@@ -35,6 +47,9 @@ abbrev pub counted_out : ℕ → Sheet → Report → Listed → Listed
 counted_out slot sheet r l = with_slot slot sheet (without_report (slot_of slot sheet l) r) l
 
 -- among the listed securities, at a place that they have; `d` is never read
+abbrev pub with_totals : List Listed → ℕ → ℕ → Sheet → Totals → Listed → List Listed
+with_totals ls place slot sheet totals d = slice_set ls place (with_slot slot sheet totals (slice_index_or ls place d))
+
 abbrev pub with_trade : List Listed → ℕ → ℕ → Sheet → Report → Listed → List Listed
 with_trade ls place slot sheet r d = slice_set ls place (counted_in slot sheet r (slice_index_or ls place d))
 
@@ -42,11 +57,11 @@ abbrev pub without_trade : List Listed → ℕ → ℕ → Sheet → Report → 
 without_trade ls place slot sheet r d = slice_set ls place (counted_out slot sheet r (slice_index_or ls place d))
 
 -- a day was opened, and has no trades
-abbrev pub moved_slots : List Totals → List Totals
-moved_slots ts = no_trades ∷ slice_index_or ts 0 no_trades ∷ slice_index_or ts 1 no_trades ∷ []
+abbrev pub moved_slots : List Slot → List Slot
+moved_slots ss = no_slot ∷ slice_index_or ss 0 no_slot ∷ slice_index_or ss 1 no_slot ∷ []
 
 abbrev pub moved_on : Listed → Listed
-moved_on l = record { security = l.security; full = moved_slots l.full; public = moved_slots l.public }
+moved_on l = record { security = l.security; slots = moved_slots l.slots }
 
 -- the totals at a place; none where there is no security
 abbrev pub at_slot : List Listed → ℕ → ℕ → Sheet → Totals

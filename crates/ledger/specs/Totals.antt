@@ -10,6 +10,10 @@ no_trades = record { number = 0; volume = 0; turnover = 0 }
 abbrev pub turnover_of : Report → ℕ
 turnover_of r = r.price * r.quantity
 
+-- those of one trade
+abbrev pub totals_of_one : Report → Totals
+totals_of_one r = record { number = 1; volume = r.quantity; turnover = turnover_of r }
+
 -- counted afresh
 abbrev pub totals_of : List Record → Totals
 totals_of ts =

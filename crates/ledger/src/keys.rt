@@ -1,4 +1,6 @@
 //! The keys under which the registers keep a trade.
+//!
+//! The keys and the record are types of other crates, so no `From` between them can stand here.
 ghost use Rattle.std.specs.Prelude.{◌≡◌};
 ghost use Rattle.ledger.specs.Keys.{price_key, execution_key, publication_key};
 

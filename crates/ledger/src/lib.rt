@@ -3,11 +3,13 @@
 #![tactic(auto)]
 
 pub mod days;
+pub mod held_day;
 pub mod keys;
 pub mod listed;
 pub mod records;
+pub mod security_day;
 pub mod sheet_keys;
-pub mod slots;
+pub mod slot;
 mod stretch;
 pub mod totals;
 pub mod trade;

@@ -3,6 +3,7 @@ ghost use Rattle.std.specs.Prelude.{◌≡◌, ◌-◌, min, length, take, drop}
 
 use rulebook::record::Record;
 
+// A count stands beside the slice: the memory is the caller's and has the book's size, whatever is held.
 /// Of the first `count` records, moves those behind the first `gone` to the front; no more are moved than there are.
 pub fn move_to_front(records: &mut [Record], gone: usize, count: usize)
     ensures moved { take (min count (length records.old) - gone) records.new ≡ drop gone (take count records.old) }

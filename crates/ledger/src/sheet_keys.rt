@@ -1,13 +1,11 @@
 //! The keys of the trades that a sheet counts and that make prices, by price and by execution.
-ghost use Rattle.std.specs.Prelude.{◌≡◌, ◌+◌, ◌<◌, Some};
-ghost use Rattle.rulebook.specs.Lists.{and_then};
+ghost use Rattle.std.specs.Prelude.{◌≡◌};
 ghost use Rattle.rulebook.specs.Sheets.{figures_of};
 ghost use Rattle.ledger.specs.Reading.{ReadsOff, opening_of, last_of};
-ghost use Rattle.ledger.specs.SheetKeys.{price_start, execution_start};
 ghost use Rattle.ledger.specs.SheetKeys.{SheetStands, NoKeys, CountedIn, CountedOut, DroppedBefore, Lent};
 
 use super::keys::{execution_key, price_key};
-use super::stretch::{first_between, last_between};
+use super::security_day::{SecurityDay, SheetKey};
 use register::Register;
 use register::execution::ExecutionKey;
 use register::price::PriceKey;
@@ -27,6 +25,7 @@ pub struct SheetMemory<'a> {
     pub executions: &'a mut [ExecutionKey],
 }
 
+// Any memory may come in any call, so that the registers stand over it is a premise of each clause and no invariant.
 impl SheetKeys {
     /// Registers that keep no key.
     pub fn new() -> SheetKeys
@@ -44,8 +43,9 @@ impl SheetKeys {
         ensures lent { Lent memory.old memory.new }
     {
         if trade.report.makes_prices() {
-            self.prices.put(memory.prices, price_key(trade, security));
-            self.executions
+            let _ = self.prices.put(memory.prices, price_key(trade, security));
+            let _ = self
+                .executions
                 .put(memory.executions, execution_key(trade, security));
         }
     }
@@ -56,9 +56,11 @@ impl SheetKeys {
         ensures lent { Lent memory.old memory.new }
     {
         if trade.report.makes_prices() {
-            self.prices
+            let _ = self
+                .prices
                 .take_out(memory.prices, price_key(trade, security));
-            self.executions
+            let _ = self
+                .executions
                 .take_out(memory.executions, execution_key(trade, security));
         }
     }
@@ -68,102 +70,46 @@ impl SheetKeys {
         ensures dropped { SheetStands self.old memory.old → DroppedBefore self.old memory.old self.new memory.new day }
         ensures lent { Lent memory.old memory.new }
     {
-        self.prices.drop_before(memory.prices, price_start(day, 0));
+        let first = SecurityDay { day, security: 0 };
+        self.prices
+            .drop_before(memory.prices, PriceKey::start(first));
         self.executions
-            .drop_before(memory.executions, execution_start(day, 0));
+            .drop_before(memory.executions, ExecutionKey::start(first));
     }
 
-    /// The lowest price of the day and of the security at that place.
-    pub fn low(&self, memory: &SheetMemory, day: u32, security: u8) -> Option<u32>
-        ensures { ReadsOff (λ ts. (figures_of ts).low) self.now memory.now day security result }
+    /// The lowest price of a security's day.
+    pub fn low(&self, memory: &SheetMemory, of: SecurityDay) -> Option<u32>
+        ensures { ReadsOff (λ ts. (figures_of ts).low) self.now memory.now of.day of.security result }
     {
-        let low = price_start(day, security);
-        let high = price_end(day, security);
-        price_of(first_between(&self.prices, memory.prices, low, high))
+        of.stretch()
+            .first(&self.prices, memory.prices)
+            .map(|key| key.price)
     }
 
     /// The highest.
-    pub fn high(&self, memory: &SheetMemory, day: u32, security: u8) -> Option<u32>
-        ensures { ReadsOff (λ ts. (figures_of ts).high) self.now memory.now day security result }
+    pub fn high(&self, memory: &SheetMemory, of: SecurityDay) -> Option<u32>
+        ensures { ReadsOff (λ ts. (figures_of ts).high) self.now memory.now of.day of.security result }
     {
-        let low = price_start(day, security);
-        let high = price_end(day, security);
-        price_of(last_between(&self.prices, memory.prices, low, high))
+        of.stretch()
+            .last(&self.prices, memory.prices)
+            .map(|key| key.price)
     }
 
-    /// The serial of the trade that was executed first, in the day and of the security at that place.
-    pub fn opening_serial(&self, memory: &SheetMemory, day: u32, security: u8) -> Option<u32>
-        ensures { ReadsOff opening_of self.now memory.now day security result }
+    /// The serial of the trade of a security's day that was executed first.
+    pub fn opening_serial(&self, memory: &SheetMemory, of: SecurityDay) -> Option<u32>
+        ensures { ReadsOff opening_of self.now memory.now of.day of.security result }
     {
-        let low = execution_start(day, security);
-        let high = execution_end(day, security);
-        serial_of(first_between(&self.executions, memory.executions, low, high))
+        of.stretch()
+            .first(&self.executions, memory.executions)
+            .map(|key| key.serial)
     }
 
     /// The serial of the trade that was executed last.
-    pub fn last_serial(&self, memory: &SheetMemory, day: u32, security: u8) -> Option<u32>
-        ensures { ReadsOff last_of self.now memory.now day security result }
+    pub fn last_serial(&self, memory: &SheetMemory, of: SecurityDay) -> Option<u32>
+        ensures { ReadsOff last_of self.now memory.now of.day of.security result }
     {
-        let low = execution_start(day, security);
-        let high = execution_end(day, security);
-        serial_of(last_between(&self.executions, memory.executions, low, high))
-    }
-}
-
-/// Where the keys by price of the day and of the security at that place start.
-fn price_start(day: u32, security: u8) -> PriceKey
-    ensures { result ≡ price_start day security }
-{
-    PriceKey {
-        day,
-        security,
-        price: 0,
-        serial: 0,
-    }
-}
-
-/// Where the keys by execution of the day and of the security at that place start.
-fn execution_start(day: u32, security: u8) -> ExecutionKey
-    ensures { result ≡ execution_start day security }
-{
-    ExecutionKey {
-        day,
-        security,
-        moment: 0,
-        serial: 0,
-    }
-}
-
-/// Where the keys by price of the day and of the security at that place end. The last place of all has none after it.
-fn price_end(day: u32, security: u8) -> PriceKey
-    ensures { security < 255 → result ≡ price_start day (security + 1) }
-{
-    price_start(day, security.saturating_add(1))
-}
-
-/// Where the keys by execution of the day and of the security at that place end. The last place of all has none after it.
-fn execution_end(day: u32, security: u8) -> ExecutionKey
-    ensures { security < 255 → result ≡ execution_start day (security + 1) }
-{
-    execution_start(day, security.saturating_add(1))
-}
-
-/// The price that a key shows.
-fn price_of(key: Option<PriceKey>) -> Option<u32>
-    ensures { result ≡ and_then key (λ k. Some k.price) }
-{
-    match key {
-        Some(key) => Some(key.price),
-        None => None,
-    }
-}
-
-/// The serial that a key shows.
-fn serial_of(key: Option<ExecutionKey>) -> Option<u32>
-    ensures { result ≡ and_then key (λ k. Some k.serial) }
-{
-    match key {
-        Some(key) => Some(key.serial),
-        None => None,
+        of.stretch()
+            .last(&self.executions, memory.executions)
+            .map(|key| key.serial)
     }
 }

@@ -1,33 +1,34 @@
 //! Totals of the trades that a sheet counts.
 ghost use Rattle.std.specs.Prelude.{◌≡◌};
-ghost use Rattle.ledger.specs.Totals.{no_trades, with_report, without_report};
+ghost use Rattle.ledger.specs.Totals.{no_trades, totals_of_one, with_report, without_report};
 
 use report::report::Report;
 
 /// Number, volume and turnover of some trades.
-#[derive(Clone, Copy)]
+#[derive(Clone, Copy, Default)]
 pub struct Totals {
     pub number: u32,
     pub volume: u64,
     pub turnover: u64,
 }
 
-/// Price times quantity.
-fn turnover_of(report: &Report) -> u64
-    ensures { result ≡ Rattle.ledger.specs.Totals.turnover_of report.now }
-{
-    report.price as u64 * report.quantity as u64
-}
-
+// `plus` and `minus` are two operations on numbers of two sizes, and one function of both is no plainer.
 impl Totals {
     /// The totals of no trade.
     pub fn none() -> Totals
         ensures { result ≡ no_trades }
     {
+        Totals::default()
+    }
+
+    /// The totals of one trade. Its turnover is price times quantity.
+    fn of_one(report: &Report) -> Totals
+        ensures { result ≡ totals_of_one report.now }
+    {
         Totals {
-            number: 0,
-            volume: 0,
-            turnover: 0,
+            number: 1,
+            volume: report.quantity as u64,
+            turnover: report.price as u64 * report.quantity as u64,
         }
     }
 
@@ -35,10 +36,11 @@ impl Totals {
     pub fn plus(self, report: &Report) -> Totals
         ensures { result ≡ with_report self report.now }
     {
+        let one = Totals::of_one(report);
         Totals {
-            number: self.number.saturating_add(1),
-            volume: self.volume.saturating_add(report.quantity as u64),
-            turnover: self.turnover.saturating_add(turnover_of(report)),
+            number: self.number.saturating_add(one.number),
+            volume: self.volume.saturating_add(one.volume),
+            turnover: self.turnover.saturating_add(one.turnover),
         }
     }
 
@@ -46,10 +48,11 @@ impl Totals {
     pub fn minus(self, report: &Report) -> Totals
         ensures { result ≡ without_report self report.now }
     {
+        let one = Totals::of_one(report);
         Totals {
-            number: self.number.saturating_sub(1),
-            volume: self.volume.saturating_sub(report.quantity as u64),
-            turnover: self.turnover.saturating_sub(turnover_of(report)),
+            number: self.number.saturating_sub(one.number),
+            volume: self.volume.saturating_sub(one.volume),
+            turnover: self.turnover.saturating_sub(one.turnover),
         }
     }
 }

@@ -1,4 +1,6 @@
 //! A trade as it waits, is published or is withdrawn, and the lines that tell of it.
+//!
+//! `Record` is a type of the rulebook, so these are functions and no methods of it; a trait of one type is no plainer.
 ghost use Rattle.std.specs.Prelude.{◌≡◌};
 ghost use Rattle.rulebook.specs.Lines.{line_of, due_line, recall_line};
 ghost use Rattle.rulebook.specs.Notebook.{is_due, waits as state_waits, is_published as state_published};
@@ -15,20 +17,14 @@ const NO_PLACE: Place = Place { day: 0, number: 0 };
 pub fn waits(trade: &Record) -> bool
     ensures { result ≡ state_waits trade.now.state }
 {
-    match trade.state {
-        State::Waiting => true,
-        State::Published | State::Dropped | State::Recalled => false,
-    }
+    trade.state == State::Waiting
 }
 
 /// Does the market see the trade?
 pub fn is_published(trade: &Record) -> bool
     ensures { result ≡ state_published trade.now.state }
 {
-    match trade.state {
-        State::Published => true,
-        State::Waiting | State::Dropped | State::Recalled => false,
-    }
+    trade.state == State::Published
 }
 
 /// Does the trade wait, and has the clock reached its moment?

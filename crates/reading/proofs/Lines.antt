@@ -1,57 +1,84 @@
 -- A line read word after word.
-use Rattle.std.proofs.Common.{◌≡◌, ℕ, ◌+◌, true, false, eqb, ltb, List, [], length, get_or, drop, None, Ok, Err, Option, Result, sym, refl, ap, ◌∙◌, add-zero, arith}
+use Rattle.std.proofs.Common.{◌≡◌, ℕ, ◌+◌, Bool, true, false, not, eqb, ltb, List, [], ◌∷◌, length, get_or, drop, is_some, Some, None, Ok, Err, Option, Result, Bor, sym, refl, ap, subst, ◌∙◌, add-zero, arith}
 use Rattle.std.proofs.lemmas.List.{drop-drop, get_or-drop, length-drop}
 use Rattle.std.proofs.lemmas.Bool.Decides.{nat_tests}
+use Rattle.std.proofs.lemmas.Iterator.Splits.{YieldsList-from_slice_split}
+use Rattle.std.specs.Fn.{CalledAt}
+use Rattle.std.specs.Slice.Iter.{split_rest, split_done, split_callee, split_steps}
+use denote.Param.Members.{Mut}
+use Rattle.std.specs.Iterator.{AlwaysYields}
+use Rattle.refusal.specs.Grounds.{unless}
 use Rattle.reading.specs.declared.flaw.Flaw.{Flaw}
 use Rattle.reading.specs.declared.flaw.Flaw.TheVariants.{TooManyWords}
 use Rattle.reading.specs.declared.line.Asked.{Asked}
-use Rattle.reading.specs.Flaws.{flaw_if, first_of, first_flaw, told}
+use Rattle.reading.specs.Flaws.{flaw_if, first_of, first_flaw}
 use Rattle.reading.specs.Line.{word_at, line_flaws, asked_in}
+use Rattle.reading.specs.Words.{is_space, words_of, word_of}
 use Rattle.reading.proofs.Told.{passes, says, stops}
 
 -- what is told where the first words, k of them, are right
 abbrev pub told_from : ℕ → List (List ℕ) → Result Asked Flaw
-told_from k words = told (first_flaw (drop k (line_flaws words))) (asked_in words)
+told_from k words = unless (first_flaw (drop k (line_flaws words))) (asked_in words)
 
--- the first k words are right, and the others are left
-pub record Reached (k : ℕ) (words left : List (List ℕ)) : Type 0 where
+-- the first k words are right, and the others are left; a call that finds none leaves all as it is
+pub record Reached {S : Type 0} (steps : S → Option (Bor (List ℕ)) → S → Type 0) (k : ℕ) (words : List (List ℕ)) (s : S) : Type 0 where
   pub answer : told_from 0 words ≡ told_from k words
-  pub rest : left ≡ drop k words
+  pub rest : AlwaysYields steps (λ x. x.now) s (drop k words)
+  pub stays : (t u : S) → steps t None u → u ≡ t
 
-pub begins : {words left : List (List ℕ)} → left ≡ words → Reached 0 words left
-begins e = record { answer = refl; rest = e }
+-- the word that comes, and those behind it
+module _ {S : Type 0} (steps : S → Option (Bor (List ℕ)) → S → Type 0) where
+  comes : (left : List (List ℕ)) (r : Option (Bor (List ℕ))) (s t : S) → AlwaysYields steps (λ x. x.now) s left → ((t u : S) → steps t None u → u ≡ t) → steps s r t
+      → (word_of r ≡ get_or left 0 []) × AlwaysYields steps (λ x. x.now) t (drop 1 left) × (is_some r ≡ not (eqb (length left) 0))
+  comes [] None s t all stays h = (refl, subst (λ u. AlwaysYields steps (λ x. x.now) u []) (sym (stays s t h)) all, refl)
+  comes [] (Some x) s t all stays h = absurd (all x t h)
+  comes (word ∷ left) None s t all stays h = absurd (all.0 t h)
+  comes (word ∷ left) (Some x) s t all stays h = ((all.1 x t h).0, (all.1 x t h).1, grind (arith, nat_tests))
 
--- the word taken is the one at place k
-taken : (k : ℕ) (words left : List (List ℕ)) (word : List ℕ) → left ≡ drop k words → word ≡ get_or left 0 [] → word ≡ word_at k words
-taken k words left word rest e = e ∙ ap (λ ws. get_or ws 0 []) rest ∙ get_or-drop k words 0 [] ∙ ap (λ n. get_or words n []) (add-zero k)
+-- a line cut by a test of spaces, of which the first call is known
+pub begins : {F : Type 0} (g : Mut F (Bor ℕ × Unit {0}) Bool) (line : List ℕ) {s : _} (t : _) (r : Option (Bor (List ℕ))) {f : F} → split_steps g s r t
+    → split_rest s ≡ line → split_done s ≡ false → split_callee s ≡ f → ((x : ℕ) (b : Bool) (q : F) → CalledAt g f x b q → (q ≡ f) × (b ≡ is_space x))
+    → Reached (split_steps g) 0 (words_of line) s
+unfolding words_of
+begins g line t r first rest done closure test = record {
+  answer = refl;
+  rest = (YieldsList-from_slice_split g is_space line rest done closure test).runs;
+  stays = λ t u h. h.1;
+}
 
-module _ {X : Type 0} (k : ℕ) (flaw : List ℕ → Option Flaw) (value : List ℕ → X) {words left : List (List ℕ)} {word : List ℕ} (reached : Reached k words left) (e : word ≡ get_or left 0 []) where
-  -- a right word
-  pub goes_on : {after : List (List ℕ)} {x : X} → told_from k words ≡ told (first_of (flaw (word_at k words)) (first_flaw (drop (k + 1) (line_flaws words)))) (asked_in words) → after ≡ drop 1 left → Ok x ≡ told (flaw word) (value word) → Reached (k + 1) words after
-  goes_on {after} {x} split a h = record {
-    answer = reached.answer ∙ split ∙ passes flaw value word (word_at k words) x (first_flaw (drop (k + 1) (line_flaws words))) (asked_in words) (taken k words left word reached.rest e) h;
-    rest = a ∙ ap (drop 1) reached.rest ∙ drop-drop 1 k words;
-  }
+module _ {S : Type 0} {steps : S → Option (Bor (List ℕ)) → S → Type 0} where
+  module _ (k : ℕ) {words : List (List ℕ)} {s t : S} {r : Option (Bor (List ℕ))} (reached : Reached steps k words s) (h : steps s r t) where
+    -- it is the one at place k
+    taken : word_of r ≡ word_at k words
+    taken = (comes steps (drop k words) r s t reached.rest reached.stays h).0 ∙ get_or-drop k words 0 [] ∙ ap (λ n. get_or words n []) (add-zero k)
 
-  -- says its value
-  pub gives : {x : X} → Ok x ≡ told (flaw word) (value word) → x ≡ value (word_at k words)
-  gives {x} h = says flaw value word (word_at k words) x (taken k words left word reached.rest e) h
+    module _ {X : Type 0} (flaw : List ℕ → Option Flaw) (value : List ℕ → X) (split : told_from k words ≡ unless (first_of (flaw (word_at k words)) (first_flaw (drop (k + 1) (line_flaws words)))) (asked_in words)) where
+      -- a right word
+      pub goes_on : {x : X} → Ok x ≡ unless (flaw (word_of r)) (value (word_of r)) → Reached steps (k + 1) words t
+      goes_on {x} e = record {
+        answer = reached.answer ∙ split ∙ passes flaw value (word_of r) (word_at k words) x (first_flaw (drop (k + 1) (line_flaws words))) (asked_in words) taken e;
+        rest = subst (λ left. AlwaysYields steps (λ x. x.now) t left) (drop-drop 1 k words) (comes steps (drop k words) r s t reached.rest reached.stays h).1;
+        stays = reached.stays;
+      }
 
-  -- a wrong word is told
-  pub ends : {f : Flaw} → told_from k words ≡ told (first_of (flaw (word_at k words)) (first_flaw (drop (k + 1) (line_flaws words)))) (asked_in words) → Err f ≡ told (flaw word) (value word) → Err f ≡ told_from 0 words
-  ends {f} split h =
-      stops flaw value word (word_at k words) f (first_flaw (drop (k + 1) (line_flaws words))) (asked_in words) (taken k words left word reached.rest e) h
-      ∙ sym (reached.answer ∙ split)
+      -- a wrong word is told
+      pub ends : {f : Flaw} → Err f ≡ unless (flaw (word_of r)) (value (word_of r)) → Err f ≡ told_from 0 words
+      ends {f} e = stops flaw value (word_of r) (word_at k words) f (first_flaw (drop (k + 1) (line_flaws words))) (asked_in words) taken e ∙ sym (reached.answer ∙ split)
 
--- behind seven right words
-pub ends_many : {words left : List (List ℕ)} → Reached 7 words left → false ≡ eqb (length left) 0 → Err TooManyWords ≡ told_from 0 words
-ends_many {words} reached h =
-    let e = ap length reached.rest ∙ length-drop 7 words in
-    let many : ltb 7 (length words) ≡ true = grind (arith, nat_tests) in
-    ap (λ b. told (first_of (flaw_if b TooManyWords) None) (asked_in words)) (sym many) ∙ sym reached.answer
+    -- a right word says its value
+    pub gives : {X : Type 0} (flaw : List ℕ → Option Flaw) (value : List ℕ → X) {x : X} → Ok x ≡ unless (flaw (word_of r)) (value (word_of r)) → x ≡ value (word_at k words)
+    gives flaw value {x} e = says flaw value (word_of r) (word_at k words) x taken e
 
-pub ends_right : {words left : List (List ℕ)} (asked : Asked) → Reached 7 words left → true ≡ eqb (length left) 0 → asked ≡ asked_in words → Ok asked ≡ told_from 0 words
-ends_right {words} asked reached h same =
-    let e = ap length reached.rest ∙ length-drop 7 words in
-    let few : ltb 7 (length words) ≡ false = grind (arith, nat_tests) in
-    ap Ok same ∙ ap (λ b. told (first_of (flaw_if b TooManyWords) None) (asked_in words)) (sym few) ∙ sym reached.answer
+  -- behind seven right words
+  module _ {words : List (List ℕ)} {s t : S} {r : Option (Bor (List ℕ))} (reached : Reached steps 7 words s) (h : steps s r t) where
+    longer : is_some r ≡ ltb 7 (length words)
+    longer =
+        let e = (comes steps (drop 7 words) r s t reached.rest reached.stays h).2 in
+        let n = length-drop 7 words in
+        grind (arith, nat_tests)
+
+    pub ends_many : is_some r ≡ true → Err TooManyWords ≡ told_from 0 words
+    ends_many e = ap (λ b. unless (first_of (flaw_if b TooManyWords) None) (asked_in words)) (sym e ∙ longer) ∙ sym reached.answer
+
+    pub ends_right : (asked : Asked) → is_some r ≡ false → asked ≡ asked_in words → Ok asked ≡ told_from 0 words
+    ends_right asked e same = ap Ok same ∙ ap (λ b. unless (first_of (flaw_if b TooManyWords) None) (asked_in words)) (sym e ∙ longer) ∙ sym reached.answer

@@ -1,42 +1,35 @@
--- A request by how many words it has.
-use Rattle.std.proofs.Common.{◌≡◌, ℕ, ◌≤◌, List, [], ◌∷◌, map, length, get_or, Err, Result, refl, ap, ◌∙◌, arith}
-use Rattle.reading.specs.declared.request.Fault.{Fault}
-use Rattle.reading.specs.declared.request.Fault.TheVariants.{NoYear, TooManyWords}
-use Rattle.reading.specs.declared.request.Request.{Request}
-use Rattle.reading.specs.Request.{one_read, marked_read, request_read}
+-- The words of a request, by how many there are.
+use Rattle.std.proofs.Common.{◌≡◌, ℕ, ◌+◌, ◌<◌, ◌≤◌, List, [], ◌∷◌, map, length, get_or, drop, Err, refl, ap, ◌∙◌, arith}
+use Rattle.std.proofs.lemmas.List.{nil_from_length, length-drop, at_drop_more}
+use Rattle.reading.specs.declared.request.Fault.TheVariants.{TooManyWords}
+use Rattle.reading.specs.Request.{request_read}
 
-module _ {X : Type 0} (bytes : X → List ℕ) where
-  pub no_word : (words : List X) → length words ≡ 0 → Err NoYear ≡ request_read (map bytes words)
-  unfolding request_read
-  no_word [] n = refl
-  no_word (a ∷ words) n = absurd (omega arith)
+module _ {X : Type 0} where
+  -- the word at a place, and those behind it; behind the last there is none
+  at_place : (words : List X) (i : ℕ) (x : X) → i < length words → x ≡ get_or words i x → drop i words ≡ x ∷ drop (i + 1) words
+  at_place words i x l is = grind (arith, at_drop_more (λ ws. ws) words i x l)
 
-  pub one_word : (words : List X) (x : X) (word : List ℕ) (r : Result Request Fault) → length words ≡ 1 → x ≡ get_or words 0 x → word ≡ bytes x → r ≡ one_read word → r ≡ request_read (map bytes words)
-  unfolding request_read
-  one_word [] x word r n i e h = absurd (omega arith)
-  one_word (a ∷ []) x word r n i e h = h ∙ ap one_read (e ∙ ap bytes i)
-  one_word (a ∷ b ∷ words) x word r n i e h = absurd (omega arith)
+  at_end : (words : List X) (n : ℕ) → length words ≡ n → drop n words ≡ []
+  at_end words n e = nil_from_length (drop n words) (omega (arith, length-drop n words))
 
-  pub two_words : (words : List X) (x y : X) (year mark : List ℕ) (r : Result Request Fault) → length words ≡ 2 → x ≡ get_or words 0 x → y ≡ get_or words 1 y → year ≡ bytes x → mark ≡ bytes y → r ≡ marked_read year year mark → r ≡ request_read (map bytes words)
-  unfolding request_read
-  two_words [] x y year mark r n i j e f h = absurd (omega arith)
-  two_words (a ∷ []) x y year mark r n i j e f h = absurd (omega arith)
-  two_words (a ∷ b ∷ []) x y year mark r n i j e f h = h ∙ ap (λ w. marked_read w w mark) (e ∙ ap bytes i) ∙ ap (marked_read (bytes a) (bytes a)) (f ∙ ap bytes j)
-  two_words (a ∷ b ∷ d ∷ words) x y year mark r n i j e f h = absurd (omega arith)
+  pub no_word : (words : List X) → length words ≡ 0 → words ≡ []
+  no_word words n = at_end words 0 n
 
-  pub three_words : (words : List X) (x y z : X) (first last mark : List ℕ) (r : Result Request Fault) → length words ≡ 3 → x ≡ get_or words 0 x → y ≡ get_or words 1 y → z ≡ get_or words 2 z → first ≡ bytes x → last ≡ bytes y → mark ≡ bytes z → r ≡ marked_read first last mark → r ≡ request_read (map bytes words)
-  unfolding request_read
-  three_words [] x y z first last mark r n i j k e f g h = absurd (omega arith)
-  three_words (a ∷ []) x y z first last mark r n i j k e f g h = absurd (omega arith)
-  three_words (a ∷ b ∷ []) x y z first last mark r n i j k e f g h = absurd (omega arith)
-  three_words (a ∷ b ∷ d ∷ []) x y z first last mark r n i j k e f g h =
-      h ∙ ap (λ w. marked_read w last mark) (e ∙ ap bytes i) ∙ ap (λ w. marked_read (bytes a) w mark) (f ∙ ap bytes j) ∙ ap (marked_read (bytes a) (bytes b)) (g ∙ ap bytes k)
-  three_words (a ∷ b ∷ d ∷ u ∷ words) x y z first last mark r n i j k e f g h = absurd (omega arith)
+  pub one_word : (words : List X) (x : X) → length words ≡ 1 → x ≡ get_or words 0 x → words ≡ x ∷ []
+  one_word words x n i = at_place words 0 x (omega arith) i ∙ ap (λ ws. x ∷ ws) (at_end words 1 n)
 
-  pub many_words : (words : List X) → 4 ≤ length words → Err TooManyWords ≡ request_read (map bytes words)
+  pub two_words : (words : List X) (x y : X) → length words ≡ 2 → x ≡ get_or words 0 x → y ≡ get_or words 1 y → words ≡ x ∷ y ∷ []
+  two_words words x y n i j = at_place words 0 x (omega arith) i ∙ ap (λ ws. x ∷ ws) (at_place words 1 y (omega arith) j ∙ ap (λ ws. y ∷ ws) (at_end words 2 n))
+
+  pub three_words : (words : List X) (x y z : X) → length words ≡ 3 → x ≡ get_or words 0 x → y ≡ get_or words 1 y → z ≡ get_or words 2 z → words ≡ x ∷ y ∷ z ∷ []
+  three_words words x y z n i j k =
+      at_place words 0 x (omega arith) i
+      ∙ ap (λ ws. x ∷ ws) (at_place words 1 y (omega arith) j ∙ ap (λ ws. y ∷ ws) (at_place words 2 z (omega arith) k ∙ ap (λ ws. z ∷ ws) (at_end words 3 n)))
+
+  pub many_words : (bytes : X → List ℕ) (words : List X) → 4 ≤ length words → Err TooManyWords ≡ request_read (map bytes words)
   unfolding request_read
-  many_words [] n = absurd (omega arith)
-  many_words (a ∷ []) n = absurd (omega arith)
-  many_words (a ∷ b ∷ []) n = absurd (omega arith)
-  many_words (a ∷ b ∷ d ∷ []) n = absurd (omega arith)
-  many_words (a ∷ b ∷ d ∷ u ∷ words) n = refl
+  many_words bytes [] n = absurd (omega arith)
+  many_words bytes (a ∷ []) n = absurd (omega arith)
+  many_words bytes (a ∷ b ∷ []) n = absurd (omega arith)
+  many_words bytes (a ∷ b ∷ d ∷ []) n = absurd (omega arith)
+  many_words bytes (a ∷ b ∷ d ∷ u ∷ words) n = refl

@@ -8,7 +8,8 @@ use Rattle.std.specs.Int.Digits.{number_from_digits_after}
 use Rattle.std.specs.List.{list_all}
 use Rattle.reading.specs.declared.number.NumberFlaw.{NumberFlaw}
 use Rattle.reading.specs.declared.number.NumberFlaw.TheVariants.{Empty, NoDigits, LeadingZero, TooLarge}
-use Rattle.reading.specs.Flaws.{flaw_if, first_flaw, told}
+use Rattle.refusal.specs.Grounds.{unless}
+use Rattle.reading.specs.Flaws.{flaw_if, first_flaw}
 use Rattle.reading.specs.Number.{is_digit, digit_of, decimal_value, leads_with_zero, fits, number_read}
 
 -- digits and their value, in the words of the library
@@ -18,15 +19,19 @@ own = numerals_by_fold _ (search rules) (λ n word. number_from_digits_after 10 
 -- what is told of a word, by its four flaws
 abbrev by_flaws : Bool → Bool → Bool → Bool → ℕ → Result ℕ NumberFlaw
 by_flaws empty digits zero small value =
-    told (first_flaw (flaw_if empty Empty ∷ flaw_if (not digits) NoDigits ∷ flaw_if zero LeadingZero ∷ flaw_if (not small) TooLarge ∷ [])) value
+    unless (first_flaw (flaw_if empty Empty ∷ flaw_if (not digits) NoDigits ∷ flaw_if zero LeadingZero ∷ flaw_if (not small) TooLarge ∷ [])) value
 
 -- a number has none of them
 flawless : (empty digits zero small : Bool) (value n : ℕ) → by_flaws empty digits zero small value ≡ Ok n → (empty ≡ false) × (digits ≡ true) × (zero ≡ false) × (small ≡ true) × (value ≡ n)
-flawless true digits zero small value n h = let z : ◌≡◌ {A = ℕ} 0 1 = cc in absurd (omega arith)
-flawless false false zero small value n h = let z : ◌≡◌ {A = ℕ} 0 1 = cc in absurd (omega arith)
-flawless false true true small value n h = let z : ◌≡◌ {A = ℕ} 0 1 = cc in absurd (omega arith)
-flawless false true false false value n h = let z : ◌≡◌ {A = ℕ} 0 1 = cc in absurd (omega arith)
+flawless true digits zero small value n h = absurd (grind arith)
+flawless false false zero small value n h = absurd (grind arith)
+flawless false true true small value n h = absurd (grind arith)
+flawless false true false false value n h = absurd (grind arith)
 flawless false true false true value n h = (refl, refl, refl, refl, cc)
+
+-- what has none of them is a number
+flawed_by : (empty digits zero small : Bool) (value : ℕ) → empty ≡ false → digits ≡ true → zero ≡ false → small ≡ true → by_flaws empty digits zero small value ≡ Ok value
+flawed_by empty digits zero small value e d z s = rw (e, d, z, s) refl
 
 pub read_is_written : (word : List ℕ) (n : ℕ) → number_read word ≡ Ok n → word ≡ decimal n
 read_is_written word n h =
@@ -52,7 +57,4 @@ written_is_read n h =
     let some = decimals.decimal_nonempty n h in
     let empty : eqb (length (decimal n)) 0 ≡ false = grind (arith, nat_tests) in
     let small : fits (decimal_value (decimal n)) ≡ true = grind (arith, nat_tests) in
-    ap (λ b. by_flaws b (list_all is_digit (decimal n)) (leads_with_zero (decimal n)) (fits (decimal_value (decimal n))) (decimal_value (decimal n))) empty
-    ∙ ap (λ b. by_flaws false b (leads_with_zero (decimal n)) (fits (decimal_value (decimal n))) (decimal_value (decimal n))) (decimals.digits_decimal own n h)
-    ∙ ap (λ b. by_flaws false true b (fits (decimal_value (decimal n))) (decimal_value (decimal n))) (leads_not n h)
-    ∙ ap (λ b. by_flaws false true false b (decimal_value (decimal n))) small ∙ ap Ok value
+    flawed_by _ _ _ _ _ empty (decimals.digits_decimal own n h) (leads_not n h) small ∙ ap Ok value

@@ -1,10 +1,9 @@
 -- The decimal value of a word, digit by digit.
-use Rattle.std.proofs.Common.{◌≡◌, ℕ, ◌+◌, ◌*◌, ◌^◌, ◌<◌, ◌≤◌, List, map, length, get_or, drop, Some, None, arith}
+use Rattle.std.proofs.Common.{◌≡◌, ℕ, ◌+◌, ◌*◌, ◌<◌, ◌≤◌, List, map, length, get_or, drop, arith}
 use Rattle.std.proofs.lemmas.Int.Digits.{number_after_ge}
 use Rattle.std.proofs.lemmas.List.{at_drop_more, at_drop_all}
-use Rattle.std.proofs.lemmas.Bool.Decides.{nat_tests}
 use Rattle.std.specs.Int.Digits.{number_from_digits_after}
-use Rattle.reading.specs.Number.{digit_of, fitting}
+use Rattle.reading.specs.Number.{digit_of}
 
 -- the value of the digits from place i on, read after n
 abbrev pub value_from : ℕ → ℕ → List ℕ → ℕ
@@ -21,16 +20,3 @@ value_all word i n h = at_drop_all (λ rest. number_from_digits_after 10 n (map 
 -- a number never falls as digits are added
 pub value_ge : (word : List ℕ) (i n : ℕ) → n ≤ value_from n i word
 value_ge word i n = number_after_ge 10 n (map digit_of (drop i word)) (omega arith)
-
--- what fits, and what does not
-pub fitting_small : (n : ℕ) → n < 2 ^ 64 → Some n ≡ fitting n
-fitting_small n h = grind (arith, nat_tests)
-
-pub fitting_large : (n : ℕ) → 2 ^ 64 ≤ n → None ≡ fitting n
-fitting_large n h = grind (arith, nat_tests)
-
-pub small_from_fitting : (n v : ℕ) → Some v ≡ fitting n → (v ≡ n) × (n < 2 ^ 64)
-small_from_fitting n v h = grind (arith, nat_tests)
-
-pub large_from_fitting : (n : ℕ) → None ≡ fitting n → 2 ^ 64 ≤ n
-large_from_fitting n h = grind (arith, nat_tests)

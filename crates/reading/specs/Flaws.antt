@@ -1,5 +1,5 @@
 -- Flaws in their order, and the first that is there.
-use Rattle.std.specs.Prelude.{Bool, cond, List, [], ◌∷◌, Some, None, Ok, Err, Option, Result}
+use Rattle.std.specs.Prelude.{Bool, cond, List, [], ◌∷◌, Some, None, Option}
 
 -- a flaw that is there where the test holds
 abbrev pub flaw_if : {F : Type 0} → Bool → F → Option F
@@ -13,8 +13,3 @@ first_of None later = later
 abbrev pub first_flaw : {F : Type 0} → List (Option F) → Option F
 first_flaw [] = None
 first_flaw (flaw ∷ later) = first_of flaw (first_flaw later)
-
--- the flaw, or the value where there is none
-abbrev pub told : {F V : Type 0} → Option F → V → Result V F
-told (Some flaw) value = Err flaw
-told None value = Ok value

@@ -10,7 +10,8 @@ use Rattle.reading.specs.declared.flaw.Flaw.TheVariants.{Missing, WrongClass, No
 use Rattle.reading.specs.declared.line.Asked.{Asked}
 use Rattle.reading.specs.declared.number.NumberFlaw.{NumberFlaw}
 use Rattle.reading.specs.declared.number.NumberFlaw.TheVariants as number
-use Rattle.reading.specs.Flaws.{flaw_if, first_flaw, told}
+use Rattle.refusal.specs.Grounds.{unless}
+use Rattle.reading.specs.Flaws.{flaw_if, first_flaw}
 use Rattle.reading.specs.Number.{number_flaw, decimal_value}
 use Rattle.reading.specs.Words.{words_of}
 
@@ -76,4 +77,4 @@ asked_in words = record {
 
 -- a line read: its first flaw, or the trade and the clock that it says
 unfoldable pub line_read : List ℕ → Result Asked Flaw
-line_read line = told (first_flaw (line_flaws (words_of line))) (asked_in (words_of line))
+line_read line = unless (first_flaw (line_flaws (words_of line))) (asked_in (words_of line))

@@ -4,7 +4,8 @@ use Rattle.std.specs.Int.Digits.{number_from_digits}
 use Rattle.std.specs.List.{list_all}
 use Rattle.reading.specs.declared.number.NumberFlaw.{NumberFlaw}
 use Rattle.reading.specs.declared.number.NumberFlaw.TheVariants.{Empty, NoDigits, LeadingZero, TooLarge}
-use Rattle.reading.specs.Flaws.{flaw_if, first_flaw, told}
+use Rattle.refusal.specs.Grounds.{unless}
+use Rattle.reading.specs.Flaws.{flaw_if, first_flaw}
 
 -- 0 to 9
 abbrev pub is_digit : ℕ → Bool
@@ -39,4 +40,4 @@ number_flaw word =
 
 -- a word read as a number
 abbrev pub number_read : List ℕ → Result ℕ NumberFlaw
-number_read word = told (number_flaw word) (decimal_value word)
+number_read word = unless (number_flaw word) (decimal_value word)

@@ -6,7 +6,8 @@ use Rattle.reading.specs.declared.request.Fault.{Fault}
 use Rattle.reading.specs.declared.request.Fault.TheVariants.{NoYear, NoNumber, OutOfRange, Backwards, TooManyWords}
 use Rattle.reading.specs.declared.request.Request.{Request}
 use Rattle.reading.specs.declared.request.Request.TheVariants.{Page, Days}
-use Rattle.reading.specs.Flaws.{flaw_if, first_flaw, told}
+use Rattle.refusal.specs.Grounds.{unless}
+use Rattle.reading.specs.Flaws.{flaw_if, first_flaw}
 use Rattle.reading.specs.Number.{number_flaw, decimal_value}
 
 -- the years of the calendar by rule
@@ -24,7 +25,7 @@ year_fault word =
 
 -- a page for one year
 abbrev pub page_read : List ℕ → Result Request Fault
-page_read word = told (year_fault word) (Page (decimal_value word))
+page_read word = unless (year_fault word) (Page (decimal_value word))
 
 -- the first year is not after the last
 abbrev pub span_fault : ℕ → ℕ → Option Fault
@@ -33,7 +34,7 @@ span_fault first last = flaw_if (nat_lt last first) (Backwards first last)
 -- a line for each day, from the first year to the last
 abbrev pub days_read : List ℕ → List ℕ → Result Request Fault
 days_read first last =
-    told (first_flaw (year_fault first ∷ year_fault last ∷ span_fault (decimal_value first) (decimal_value last) ∷ [])) (Days (decimal_value first) (decimal_value last))
+    unless (first_flaw (year_fault first ∷ year_fault last ∷ span_fault (decimal_value first) (decimal_value last) ∷ [])) (Days (decimal_value first) (decimal_value last))
 
 -- the mark that asks for days
 abbrev pub asks_days : List ℕ → Bool

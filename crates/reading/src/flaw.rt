@@ -16,11 +16,11 @@ pub enum Field {
     Mark,
 }
 
-impl Field {
-    fn name(self) -> &'static str
-        ensures { result.now ≡ field_name self }
-    {
-        match self {
+impl fmt::Display for Field {
+    ghost output = { λ field. Some (field_name field) };
+
+    fn fmt<W: fmt::Write>(&self, f: &mut fmt::Formatter<W>) -> fmt::Result {
+        f.write_str(match self {
             Field::Class => "CLASS",
             Field::Daily => "ADT",
             Field::Price => "PRICE",
@@ -28,7 +28,7 @@ impl Field {
             Field::Execution => "EXECUTION",
             Field::Clock => "CLOCK",
             Field::Mark => "MARK",
-        }
+        })
     }
 }
 
@@ -56,23 +56,11 @@ impl fmt::Display for Flaw {
 
     fn fmt<W: fmt::Write>(&self, f: &mut fmt::Formatter<W>) -> fmt::Result {
         match *self {
-            Flaw::Missing(field) => {
-                let name = field.name();
-                write!(f, "{name} is missing")
-            }
+            Flaw::Missing(field) => write!(f, "{field} is missing"),
             Flaw::WrongClass => write!(f, "CLASS is not E or F"),
-            Flaw::NoNumber(field) => {
-                let name = field.name();
-                write!(f, "{name} is not a number")
-            }
-            Flaw::LeadingZero(field) => {
-                let name = field.name();
-                write!(f, "{name} begins with 0")
-            }
-            Flaw::TooLarge(field) => {
-                let name = field.name();
-                write!(f, "{name} is too large")
-            }
+            Flaw::NoNumber(field) => write!(f, "{field} is not a number"),
+            Flaw::LeadingZero(field) => write!(f, "{field} begins with 0"),
+            Flaw::TooLarge(field) => write!(f, "{field} is too large"),
             Flaw::WrongMark => write!(f, "MARK is not N or D"),
             Flaw::TooManyWords => write!(f, "there are more than seven words"),
         }

@@ -7,5 +7,3 @@ pub mod flaw;
 pub mod line;
 pub mod number;
 pub mod request;
-mod same;
-mod words;

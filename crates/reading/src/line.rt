@@ -1,13 +1,12 @@
 //! A line that holds a trade: `CLASS ADT PRICE QUANTITY EXECUTION CLOCK MARK`.
 ghost use Rattle.std.specs.Prelude.{◌≡◌};
-ghost use Rattle.reading.specs.Flaws.{told};
+ghost use Rattle.refusal.specs.Grounds.{unless};
 ghost use Rattle.reading.specs.Line.{class_flaw, class_of, mark_flaw, defers, told_of, field_flaw, line_read};
 ghost use Rattle.reading.specs.Number.{decimal_value};
+ghost use Rattle.reading.specs.Words.{is_space, word_of};
 
 use crate::flaw::{Field, Flaw};
 use crate::number::{NumberFlaw, read_number};
-use crate::same::same_bytes;
-use crate::words::Words;
 use deferral::question::Class;
 use deferral::trade::Trade;
 
@@ -18,36 +17,38 @@ pub struct Asked {
     pub clock: u64,
 }
 
-/// Reads the class of a security.
-fn read_class(word: &[u8]) -> Result<Class, Flaw>
-    ensures { result ≡ told (class_flaw word.now) (class_of word.now) }
+/// Is the byte a space?
+fn is_space(byte: u8) -> bool
+    ensures { result ≡ is_space byte }
 {
-    if word.is_empty() {
-        Err(Flaw::Missing(Field::Class))
-    } else if same_bytes(word, b"E") {
-        Ok(Class::Equity)
-    } else if same_bytes(word, b"F") {
-        Ok(Class::Etf)
-    } else {
-        Err(Flaw::WrongClass)
+    byte == b' '
+}
+
+/// Reads the class of a security.
+fn read_class(word: Option<&[u8]>) -> Result<Class, Flaw>
+    ensures { result ≡ unless (class_flaw (word_of word.entry)) (class_of (word_of word.entry)) }
+{
+    match word.unwrap_or(&[]) {
+        b"" => Err(Flaw::Missing(Field::Class)),
+        b"E" => Ok(Class::Equity),
+        b"F" => Ok(Class::Etf),
+        _ => Err(Flaw::WrongClass),
     }
 }
 
 /// Reads whether publication may be deferred.
-fn read_mark(word: &[u8]) -> Result<bool, Flaw>
-    ensures { result ≡ told (mark_flaw word.now) (defers word.now) }
+fn read_mark(word: Option<&[u8]>) -> Result<bool, Flaw>
+    ensures { result ≡ unless (mark_flaw (word_of word.entry)) (defers (word_of word.entry)) }
 {
-    if word.is_empty() {
-        Err(Flaw::Missing(Field::Mark))
-    } else if same_bytes(word, b"D") {
-        Ok(true)
-    } else if same_bytes(word, b"N") {
-        Ok(false)
-    } else {
-        Err(Flaw::WrongMark)
+    match word.unwrap_or(&[]) {
+        b"" => Err(Flaw::Missing(Field::Mark)),
+        b"D" => Ok(true),
+        b"N" => Ok(false),
+        _ => Err(Flaw::WrongMark),
     }
 }
 
+// No `From`: the field comes with it.
 /// What is wrong with a number, told of its field.
 fn told_of(field: Field, flaw: NumberFlaw) -> Flaw
     ensures { result ≡ told_of field flaw }
@@ -61,28 +62,25 @@ fn told_of(field: Field, flaw: NumberFlaw) -> Flaw
 }
 
 /// Reads the number of a field.
-fn read_field(field: Field, word: &[u8]) -> Result<u64, Flaw>
-    ensures { result ≡ told (field_flaw field word.now) (decimal_value word.now) }
+fn read_field(field: Field, word: Option<&[u8]>) -> Result<u64, Flaw>
+    ensures { result ≡ unless (field_flaw field (word_of word.entry)) (decimal_value (word_of word.entry)) }
 {
-    match read_number(word) {
-        Ok(value) => Ok(value),
-        Err(flaw) => Err(told_of(field, flaw)),
-    }
+    read_number(word.unwrap_or(&[])).map_err(|flaw| told_of(field, flaw))
 }
 
 /// Reads a line, without its end.
 pub fn read_line(line: &[u8]) -> Result<Asked, Flaw>
     ensures { result ≡ line_read line.now }
 {
-    let mut words = Words::of(line);
-    let class = read_class(words.take_word())?;
-    let daily = read_field(Field::Daily, words.take_word())?;
-    let price = read_field(Field::Price, words.take_word())?;
-    let quantity = read_field(Field::Quantity, words.take_word())?;
-    let execution = read_field(Field::Execution, words.take_word())?;
-    let clock = read_field(Field::Clock, words.take_word())?;
-    let deferrable = read_mark(words.take_word())?;
-    if !words.are_over() {
+    let mut words = line.split(|byte| is_space(*byte));
+    let class = read_class(words.next())?;
+    let daily = read_field(Field::Daily, words.next())?;
+    let price = read_field(Field::Price, words.next())?;
+    let quantity = read_field(Field::Quantity, words.next())?;
+    let execution = read_field(Field::Execution, words.next())?;
+    let clock = read_field(Field::Clock, words.next())?;
+    let deferrable = read_mark(words.next())?;
+    if words.next().is_some() {
         return Err(Flaw::TooManyWords);
     }
     let trade = Trade {

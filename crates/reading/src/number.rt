@@ -27,12 +27,7 @@ fn is_digit(byte: u8) -> bool
 fn has_only_digits(word: &[u8]) -> bool
     ensures { result ≡ list_all is_digit word.now }
 {
-    for byte in word {
-        if !is_digit(*byte) {
-            return false;
-        }
-    }
-    true
+    word.iter().all(|byte| is_digit(*byte))
 }
 
 /// Does the word begin with 0, and go on?
@@ -55,6 +50,7 @@ fn with_digit(value: u64, byte: u8) -> Option<u64>
 fn decimal_value(word: &[u8]) -> Option<u64>
     ensures { result ≡ fitting (decimal_value word.now) }
 {
+    // A loop: std has no lemma on what `try_fold` says, and its contract alone does not give the value.
     let mut value = 0;
     for byte in word {
         value = with_digit(value, *byte)?;

@@ -1,19 +1,21 @@
 //! What the words after the name of a program that prints trading years ask for.
 ghost use Rattle.std.specs.Prelude.{◌≡◌, map, Some, string_bytes};
 ghost use Rattle.reading.specs.declared.request.Request.TheVariants.{Days};
-ghost use Rattle.reading.specs.Flaws.{told};
+ghost use Rattle.refusal.specs.Grounds.{unless};
 ghost use Rattle.reading.specs.Messages.{fault_text};
 ghost use Rattle.reading.specs.Number.{decimal_value};
 ghost use Rattle.reading.specs.Request.{year_fault, span_fault, page_read, days_read, asks_days, one_read, marked_read, request_read};
 
 use crate::number::read_number;
-use crate::same::same_bytes;
 use std::fmt;
 
 /// The years of the calendar by rule.
 const FIRST_YEAR: u64 = 2000;
 
 const LAST_YEAR: u64 = 2199;
+
+/// The mark that asks for days.
+const DAYS: &[u8] = b"--days";
 
 /// What is to be printed.
 #[derive(Clone, Copy, PartialEq, Eq, Debug)]
@@ -58,12 +60,10 @@ impl fmt::Display for Fault {
 
 /// Reads a year of the calendar by rule.
 fn read_year(word: &[u8]) -> Result<u32, Fault>
-    ensures { result ≡ told (year_fault word.now) (decimal_value word.now) }
+    ensures { result ≡ unless (year_fault word.now) (decimal_value word.now) }
 {
-    let Ok(year) = read_number(word) else {
-        return Err(Fault::NoNumber);
-    };
-    if year < FIRST_YEAR || year > LAST_YEAR {
+    let year = read_number(word).map_err(|_| Fault::NoNumber)?;
+    if !(FIRST_YEAR..=LAST_YEAR).contains(&year) {
         return Err(Fault::OutOfRange(year));
     }
     Ok(year as u32)
@@ -78,7 +78,7 @@ fn read_page(word: &[u8]) -> Result<Request, Fault>
 
 /// The days from the first year to the last.
 fn days_of(first: u32, last: u32) -> Result<Request, Fault>
-    ensures { result ≡ told (span_fault first last) (Days first last) }
+    ensures { result ≡ unless (span_fault first last) (Days first last) }
 {
     if last < first {
         return Err(Fault::Backwards(first, last));
@@ -99,7 +99,7 @@ fn read_days(first: &[u8], last: &[u8]) -> Result<Request, Fault>
 fn asks_days(word: &[u8]) -> bool
     ensures { result ≡ asks_days word.now }
 {
-    same_bytes(word, b"--days")
+    word == DAYS
 }
 
 /// Reads the only word.

@@ -1,38 +1,38 @@
 -- The place of a key among keys that rise.
-use Rattle.std.proofs.Common.{◌≡◌, ℕ, ◌+◌, ◌<◌, Bool, true, false, not, List, [], ◌∷◌, length, get_or, take, drop, filter, sym, ap, ◌∙◌, add-one, arith}
+use Rattle.std.proofs.Common.{◌≡◌, ℕ, zero, suc, ◌+◌, ◌<◌, ◌≤◌, Bool, true, false, not, List, [], ◌∷◌, length, get_or, take, drop, filter, refl, sym, ap, ◌∙◌, add-one, arith}
+use Rattle.std.specs.List.Sorted.{IsPartitionPoint, IsPartitionedBy}
 use Rattle.std.specs.List.{AllByRecursion as All}
-use Rattle.std.proofs.lemmas.List.{append-nil, take-append-drop, length-take-le, get_or-take, take_more, drop_more, drop_all}
+use Rattle.std.proofs.lemmas.List.{take-append-drop, drop_more, drop_all}
 use Rattle.std.proofs.lemmas.List.Elements.{filter-append}
-use Rattle.std.proofs.ByRecursion.{All-from_get_or, All-append, All-weaker, kept_by_passes}
-use Rattle.std.proofs.lemmas.Bool.{not-true, not_from_true, not_from_false}
+use Rattle.std.proofs.ByRecursion.{kept_by_passes}
+use Rattle.std.proofs.lemmas.Bool.{not-true}
 use Rattle.register.specs.Order.{Total, same}
 use Rattle.register.specs.Lists.{Rising, has, without}
 use Rattle.register.specs.Places.{Cut, Here, Gap}
-use Rattle.register.proofs.Totals.{past, apart_after, same_self}
-use Rattle.register.proofs.Members.{kept_all, kept_none, above_absent, after_absent, has_from, has_before}
+use Rattle.register.proofs.Totals.{apart_after, same_self}
+use Rattle.register.proofs.Members.{above_absent, after_absent, has_from, has_before}
 use Rattle.register.proofs.Rises.{rising_at, rising_drop, above_more, without_absent}
 
--- what passes stands in front of a place, and what does not from there on
-parted : {X : Type 0} (p : X → Bool) (xs : List X) (at : ℕ) → All (λ x. p x ≡ true) (take at xs) → All (λ x. p x ≡ false) (drop at xs) → filter p xs ≡ take at xs
-parted p xs at a b =
-    ap (filter p) (sym (take-append-drop at xs)) ∙ filter-append p (take at xs) (drop at xs) ∙ rw (kept_all p (take at xs) a, kept_none p (drop at xs) b) (append-nil (take at xs))
-
-parted_rest : {X : Type 0} (p : X → Bool) (xs : List X) (at : ℕ) → All (λ x. p x ≡ false) (take at xs) → All (λ x. p x ≡ true) (drop at xs) → filter p xs ≡ drop at xs
-parted_rest p xs at a b =
-    ap (filter p) (sym (take-append-drop at xs)) ∙ filter-append p (take at xs) (drop at xs) ∙ rw (kept_none p (take at xs) a, kept_all p (drop at xs) b)
+-- where what passes stands in front of a place, and what does not from there on
+parted : {X : Type 0} (p : X → Bool) (xs : List X) (at : ℕ) → IsPartitionPoint (λ x. p x ≡ true) (λ x. p x ≡ false) xs at → (filter p xs ≡ take at xs) × (filter (λ x. not (p x)) xs ≡ drop at xs)
+parted p [] zero h = (refl, refl)
+parted p [] (suc at) h = (refl, refl)
+parted p (x ∷ xs) zero h =
+    let e : p x ≡ false = h.1 0 x (omega arith) (omega arith) in
+    let rest = parted p xs zero (λ i d l m. absurd (omega arith), λ i d l m. h.1 (suc i) d (omega arith) (omega arith)) in
+    rw e (rest.0, ap (λ l. x ∷ l) rest.1)
+parted p (x ∷ xs) (suc at) h =
+    let e : p x ≡ true = h.0 0 x (omega arith) (omega arith) in
+    let rest = parted p xs at (λ i d l m. h.0 (suc i) d (omega arith) (omega arith), λ i d l m. h.1 (suc i) d (omega arith) (omega arith)) in
+    rw e (ap (λ l. x ∷ l) rest.0, rest.1)
 
 -- a key that is read at a place begins what stands from there on
 pub from_read : {X : Type 0} (xs : List X) (at : ℕ) (x : X) → at < length xs → x ≡ get_or xs at x → drop at xs ≡ x ∷ drop (at + 1) xs
 from_read xs at x h is = drop_more xs at x h ∙ ap (λ y. y ∷ drop (at + 1) xs) (sym is)
 
 module _ {K : Type 0} (lt : K → K → Bool) (k : K) (xs : List K) where
-  pub cut_parted : (at : ℕ) → All (λ x. lt x k ≡ true) (take at xs) → All (λ x. lt x k ≡ false) (drop at xs) → Cut lt k xs at
-  cut_parted at a b = record {
-    low = parted (λ x. lt x k) xs at a b;
-    high = parted_rest (λ x. not (lt x k)) xs at
-        (All-weaker (λ x. lt x k ≡ true) (λ x. not (lt x k) ≡ false) (λ x. not_from_true (lt x k)) (take at xs) a)
-        (All-weaker (λ x. lt x k ≡ false) (λ x. not (lt x k) ≡ true) (λ x. not_from_false (lt x k)) (drop at xs) b);
-  }
+  pub cut_at : (at : ℕ) → IsPartitionPoint (λ x. lt x k ≡ true) (λ x. lt x k ≡ false) xs at → Cut lt k xs at
+  cut_at at h = let parts = parted (λ x. lt x k) xs at h in record { low = parts.0; high = parts.1 }
 
   module _ (o : Total lt) where
     -- k is in the list if it is among the keys from its place on
@@ -45,33 +45,25 @@ module _ {K : Type 0} (lt : K → K → Bool) (k : K) (xs : List K) where
     gap_from_absent : (at : ℕ) → Cut lt k xs at → has lt k xs ≡ false → Gap lt k xs at
     gap_from_absent at c n = record { none = n; more = rw (after_absent lt o k xs n, c.low, c.high) }
 
-    pub gap_end : (at : ℕ) → at ≡ length xs → Cut lt k xs at → Gap lt k xs at
-    gap_end at e c = gap_from_absent at c (has_rest at c ∙ ap (has lt k) (drop_all at xs (omega arith)))
+    pub gap_end : (at : ℕ) → Cut lt k xs at → length xs ≤ at → Gap lt k xs at
+    gap_end at c e = gap_from_absent at c (has_rest at c ∙ ap (has lt k) (drop_all at xs e))
 
-    module _ (u : Rising lt xs) (at : ℕ) (x : K) (h : at < length xs) (is : x ≡ get_or xs at x) where
+    -- those before k stand in front
+    pub partitioned : Rising lt xs → IsPartitionedBy (λ x. lt x k) xs
+    partitioned u i j d h l e = grind (arith, o.onward (get_or xs i d) (get_or xs j d) k, rising_at lt xs u i j d)
+
+    module _ (at : ℕ) (x : K) (c : Cut lt k xs at) (u : Rising lt xs) (h : at < length xs) (is : x ≡ get_or xs at x) where
       front : Rising lt (x ∷ drop (at + 1) xs)
       front = rw (from_read xs at x h is) at (rising_drop lt at xs u)
 
-      pub all_to : true ≡ lt x k → All (λ y. lt y k ≡ true) (take (at + 1) xs)
-      all_to e =
-          let l = length-take-le at xs (omega arith) in
-          let lower : All (λ y. lt y k ≡ true) (take at xs) = All-from_get_or (λ y. lt y k ≡ true) (take at xs) x (λ i j. let m : i < at = omega arith in rw get_or-take (o.onward (get_or xs i x) x k (rw (sym is) at (rising_at lt xs u i at x m h)) (sym e))) in
-          rw (take_more xs at x h, sym is) (All-append (λ y. lt y k ≡ true) (take at xs) (x ∷ []) lower (sym e, tt))
+      pub gap_at : lt k x ≡ true → Gap lt k xs at
+      gap_at e = gap_from_absent at c (grind (arith, has_rest at c, from_read xs at x h is, apart_after lt x k e, above_absent lt k (drop (at + 1) xs) (above_more lt o k x (drop (at + 1) xs) e front.0)))
 
-      pub none_from : false ≡ lt x k → All (λ y. lt y k ≡ false) (drop at xs)
-      none_from e =
-          rw (from_read xs at x h is) (sym e, All-weaker (λ y. lt x y ≡ true) (λ y. lt y k ≡ false) (λ y b. past lt o x y k b (sym e)) (drop (at + 1) xs) front.0)
-
-      pub gap_at : Cut lt k xs at → true ≡ lt k x → Gap lt k xs at
-      gap_at c e =
-          let out : has lt k (x ∷ drop (at + 1) xs) ≡ false = rw (apart_after lt x k (sym e)) (above_absent lt k (drop (at + 1) xs) (above_more lt o k x (drop (at + 1) xs) (sym e) front.0)) in
-          gap_from_absent at c (has_rest at c ∙ ap (has lt k) (from_read xs at x h is) ∙ out)
-
-      pub here_at : Cut lt k xs at → false ≡ lt k x → Here lt k xs at
-      here_at c e =
+      pub here_at : lt k x ≡ false → Here lt k xs at
+      here_at e =
           let rest = drop (at + 1) xs in
           let high : All (λ y. not (lt y k) ≡ true) (x ∷ rest) = rw (c.high, from_read xs at x h is) at (kept_by_passes (λ y. not (lt y k)) xs) in
-          let f : x ≡ k = o.one x k (not-true (lt x k) high.0) (sym e) in
+          let f : x ≡ k = o.one x k (not-true (lt x k) high.0) e in
           let s : same lt x k ≡ true = rw f (same_self lt o k) in
           let out : has lt k rest ≡ false = rw (sym f) (above_absent lt x rest front.0) in
           record {

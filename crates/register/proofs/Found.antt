@@ -1,39 +1,42 @@
--- What the calls that read find: `ks` is the keys kept, as a call reads them.
-use Rattle.std.proofs.Common.{◌≡◌, ℕ, ◌-◌, ◌<◌, ◌≤◌, Bool, List, length, get_or, Option, sym, refl, ap, ◌∙◌, arith, MatchOption}
-use Rattle.std.proofs.lemmas.List.{length-take-le, take_all}
-use Rattle.register.specs.declared.Register.{Register}
+-- What the calls that read find.
+use Rattle.std.proofs.Common.{◌≡◌, ℕ, suc, ◌-◌, ◌≤◌, Bool, List, [], ◌∷◌, length, take, drop, Option, sym, refl, ap, ◌∙◌, arith}
+use Rattle.std.specs.List.{slice_get}
+use Rattle.std.proofs.lemmas.List.{length-take-le}
 use Rattle.register.specs.Order.{Total}
 use Rattle.register.specs.Lists.{Rising, before, from, first, last}
 use Rattle.register.specs.Places.{Cut}
-use Rattle.register.specs.Kept.{kept, Stands}
 use Rattle.register.specs.Calls.{Smallest, Largest, FirstFrom, LastBefore}
-use Rattle.register.proofs.Ends.{first_at, last_at, least_first, greatest_last, least_between, greatest_between}
-use Rattle.register.proofs.Fronts.{read_rising}
+use Rattle.register.proofs.Ends.{least_first, greatest_last, least_between, greatest_between}
 
-module _ {K : Type 0} (lt : K → K → Bool) (o : Total lt) (register : Register K) (memory ks : List K) (e : ks ≡ kept register memory) (s : Stands lt register memory) (r : Option K) where
-  rises : Rising lt ks
-  rises = read_rising lt register memory ks e s
+pub first_of : {X : Type 0} (xs : List X) → slice_get xs 0 ≡ first xs
+first_of [] = refl
+first_of (x ∷ xs) = refl
 
-  pub found_smallest : MatchOption r (length ks ≤ 0) (λ x. (0 < length ks) × (x ≡ get_or ks 0 x)) → Smallest lt (kept register memory) r
-  found_smallest at = let is : r ≡ first ks = first_at ks 0 r at in rw (← e, is) (record { value = refl; least = least_first lt o ks rises })
+last_at : {X : Type 0} (xs : List X) (n : ℕ) → n ≡ length xs → slice_get xs (n - 1) ≡ last xs
+last_at [] n e = refl
+last_at (x ∷ []) n e = let z : n - 1 ≡ 0 = omega arith in ap (slice_get (x ∷ [])) z
+last_at (x ∷ y ∷ ys) n e = let z : n - 1 ≡ suc (n - 1 - 1) = omega arith in ap (slice_get (x ∷ y ∷ ys)) z ∙ last_at (y ∷ ys) (n - 1) (omega arith)
 
-  pub found_largest : MatchOption r (length ks ≡ 0) (λ x. (0 < length ks) × (x ≡ get_or ks (length ks - 1) x)) → Largest lt (kept register memory) r
-  found_largest at =
-      let is : r ≡ last ks = last_at ks (length ks) r (omega arith) at ∙ ap last (take_all (length ks) ks (omega arith)) in
-      rw (← e, is) (record { value = refl; greatest = greatest_last lt o ks rises })
+pub last_of : {X : Type 0} (xs : List X) → slice_get xs (length xs - 1) ≡ last xs
+last_of xs = last_at xs (length xs) refl
 
-  pub found_from : (low : K) (n : ℕ) → (Rising lt ks → Cut lt low ks n) → MatchOption r (length ks ≤ n) (λ x. (n < length ks) × (x ≡ get_or ks n x)) → FirstFrom lt low (kept register memory) r
-  found_from low n cut at =
-      let is : r ≡ first (from lt low ks) = first_at ks n r at ∙ ap first (sym (cut rises).high) in
-      rw (← e, is) (record { value = refl; least = λ high. least_between lt o low high ks rises })
+module _ {K : Type 0} (lt : K → K → Bool) (o : Total lt) where
+  pub smallest_is : (xs : List K) (found : Option K) → Rising lt xs → found ≡ first xs → Smallest lt xs found
+  smallest_is xs found u is = rw is (record { value = refl; least = least_first lt o xs u })
 
-  pub found_before : (high : K) (n : ℕ) → (Rising lt ks → Cut lt high ks n) → n ≤ length ks → MatchOption r (n ≡ 0) (λ x. (0 < n) × (x ≡ get_or ks (n - 1) x)) → LastBefore lt high (kept register memory) r
-  found_before high n cut l at =
-      let is : r ≡ last (before lt high ks) = last_at ks n r l at ∙ ap last (sym (cut rises).low) in
-      rw (← e, is) (record { value = refl; greatest = λ low. greatest_between lt o low high ks rises })
+  pub largest_is : (xs : List K) (found : Option K) → Rising lt xs → found ≡ last xs → Largest lt xs found
+  largest_is xs found u is = rw is (record { value = refl; greatest = greatest_last lt o xs u })
+
+  pub first_from_is : (low : K) (xs : List K) (found : Option K) (at : ℕ) → Rising lt xs → Cut lt low xs at → found ≡ first (drop at xs) → FirstFrom lt low xs found
+  first_from_is low xs found at u c e =
+      let is : found ≡ first (from lt low xs) = e ∙ ap first (sym c.high) in
+      rw is (record { value = refl; least = λ high. least_between lt o low high xs u })
+
+  pub last_before_is : (high : K) (xs : List K) (found : Option K) (at : ℕ) → Rising lt xs → Cut lt high xs at → found ≡ last (take at xs) → LastBefore lt high xs found
+  last_before_is high xs found at u c e =
+      let is : found ≡ last (before lt high xs) = e ∙ ap last (sym c.low) in
+      rw is (record { value = refl; greatest = λ low. greatest_between lt o low high xs u })
 
 -- how many keys are before a bound
-pub count_before : {K : Type 0} (lt : K → K → Bool) (register : Register K) (memory ks : List K) → ks ≡ kept register memory → Stands lt register memory
-    → (high : K) (n : ℕ) → (Rising lt ks → Cut lt high ks n) → n ≤ length ks → n ≡ length (before lt high (kept register memory))
-count_before {K} lt register memory ks e s high n cut within =
-    sym (length-take-le n ks within) ∙ ap length (sym (cut (read_rising lt register memory ks e s)).low) ∙ ap (λ (x : List K). length (before lt high x)) e
+pub count_is : {K : Type 0} (lt : K → K → Bool) (high : K) (xs : List K) (at : ℕ) → Cut lt high xs at → at ≤ length xs → at ≡ length (before lt high xs)
+count_is lt high xs at c l = rw c.low (sym (length-take-le at xs l))

@@ -1,17 +1,19 @@
 -- The laws that callers may use hold for every total order.
 use Rattle.std.proofs.Common.{Bool, arith}
+use Rattle.std.proofs.lemmas.List.{length-take}
+use Rattle.register.specs.Kept.{kept, Stands}
 use Rattle.register.specs.Order.{Total}
 use Rattle.register.specs.Laws.{Laws}
-use Rattle.register.proofs.Totals.{same_is, same_self}
+use Rattle.register.proofs.Totals.{same_self, same_is}
 use Rattle.register.proofs.Ends.{one_least, one_greatest}
 use Rattle.register.proofs.Members.{has_with, has_without, has_from, has_before}
 use Rattle.register.proofs.Rises.{determined, length_with, length_without, length_parts}
-use Rattle.register.proofs.Fronts.{stands_rising, stands_count, stands_within}
 
 pub laws : {K : Type 0} (lt : K → K → Bool) → Total lt → Laws lt
+unfolding kept Stands
 laws lt o = record {
-  rise = stands_rising lt;
-  fit = λ register memory s. omega (arith, stands_count lt register memory s, stands_within lt register memory s);
+  rise = λ register memory s. s.1;
+  fit = λ register memory s. omega (arith, length-take register.count memory);
   same_is = same_is lt o;
   same_self = same_self lt o;
   determined = determined lt o;

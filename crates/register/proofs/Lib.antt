@@ -4,7 +4,6 @@ pub mod Rises
 pub mod Cuts
 pub mod Ends
 pub mod Holes
-pub mod Fronts
 pub mod Found
-pub mod Left
 pub mod Lawful
+pub mod Calls

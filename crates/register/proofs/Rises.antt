@@ -1,10 +1,10 @@
 -- Lists that rise: their parts rise, their members say which list it is, and how long their parts are.
-use Rattle.std.proofs.Common.{◌≡◌, ℕ, zero, suc, ◌+◌, ◌<◌, Bool, true, false, not, List, [], ◌∷◌, ◌++◌, length, get_or, drop, filter, sym, refl, ap, ◌∙◌, ⊎_elim, arith}
+use Rattle.std.proofs.Common.{◌≡◌, ℕ, zero, suc, ◌+◌, ◌<◌, Bool, true, false, not, List, [], ◌∷◌, ◌++◌, length, get_or, drop, filter, sym, refl, ap, ⊎_elim, arith}
 use Rattle.std.specs.List.{AllByRecursion as All}
 use Rattle.std.proofs.lemmas.List.{length-append}
 use Rattle.std.proofs.ByRecursion.{all_kept_by, kept_by_passes, All-weaker, All-get_or, All-append}
 use Rattle.std.proofs.lemmas.List.Filters.{length-filter_both}
-use Rattle.std.proofs.lemmas.Bool.{cases_Bool, both_ways, not_from_false}
+use Rattle.std.proofs.lemmas.Bool.{cases_Bool, false_from_ne_true, not_from_false}
 use Rattle.register.specs.Order.{Total, same}
 use Rattle.register.specs.Lists.{Rising, has, before, from, after, with_key, without}
 use Rattle.register.proofs.Totals.{same_self, same_is, apart_after}
@@ -56,51 +56,25 @@ module _ {K : Type 0} (lt : K → K → Bool) where
 
     -- the first key of a list is not in another that begins after it
     first_absent : (x y : K) (xs ys : List K) → Rising lt (y ∷ ys) → ((k : K) → has lt k (x ∷ xs) ≡ has lt k (y ∷ ys)) → lt x y ≡ true → ⊥
-    first_absent x y xs ys v h e =
-        let in' : has lt x (x ∷ xs) ≡ true = rw (same_self lt o x) in
-        let out : has lt x (y ∷ ys) ≡ false = rw (apart_after lt y x e) (above_absent lt x ys (above_more x y ys e v.0)) in
-        both_ways (has lt x (y ∷ ys)) out (sym (h x) ∙ in')
+    first_absent x y xs ys v h e = let out = above_absent lt x ys (above_more x y ys e v.0) in grind (arith, h x, same_self lt o x, apart_after lt y x e)
 
     pub determined : (xs ys : List K) → Rising lt xs → Rising lt ys → ((k : K) → has lt k xs ≡ has lt k ys) → xs ≡ ys
     determined [] [] u v h = refl
-    determined [] (y ∷ ys) u v h = absurd (both_ways false refl (h y ∙ rw (same_self lt o y)))
-    determined (x ∷ xs) [] u v h = absurd (both_ways false refl (sym (h x) ∙ rw (same_self lt o x)))
+    determined [] (y ∷ ys) u v h = absurd (grind (arith, h y, same_self lt o y))
+    determined (x ∷ xs) [] u v h = absurd (grind (arith, h x, same_self lt o x))
     determined (x ∷ xs) (y ∷ ys) u v h =
-        ⊎_elim
-        (λ (a : lt x y ≡ true). absurd (first_absent x y xs ys v h a))
-        (λ (a : lt x y ≡ false).
-        ⊎_elim
-        (λ (b : lt y x ≡ true). absurd (first_absent y x ys xs u (λ k. sym (h k)) b))
-        (λ (b : lt y x ≡ false). let e = o.one x y a b in let t = determined xs ys u.1 v.1 (rest e) in cc)
-        (cases_Bool (lt y x)))
-        (cases_Bool (lt x y)) where
+        let e : x ≡ y = o.one x y (false_from_ne_true (lt x y) (first_absent x y xs ys v h)) (false_from_ne_true (lt y x) (first_absent y x ys xs u (λ k. sym (h k)))) in
+        let t = determined xs ys u.1 v.1 (rest e) in
+        cc where
           rest : x ≡ y → (k : K) → has lt k xs ≡ has lt k ys
           rest e k =
-              ⊎_elim
-              (λ (s : same lt x k ≡ true).
-              let f = same_is lt o x k s in
-              let g : y ≡ k = sym e ∙ f in
-              let a : has lt k xs ≡ false = rw (sym f) (above_absent lt x xs u.0) in
-              let b : has lt k ys ≡ false = rw (sym g) (above_absent lt y ys v.0) in
-              a ∙ sym b)
-              (λ (s : same lt x k ≡ false).
-              let t : same lt y k ≡ false = rw (sym e) s in
-              rw (s, t) at (h k))
-              (cases_Bool (same lt x k))
+              let a = above_absent lt x xs u.0 in
+              let b = above_absent lt y ys v.0 in
+              grind (arith, h k, same_is lt o x k, same_is lt o y k)
 
     pub length_with : (k : K) (xs : List K) → has lt k xs ≡ false → length (with_key lt k xs) ≡ length xs + 1
-    length_with k xs n =
-        let l = length-append (before lt k xs) (k ∷ after lt k xs) in
-        let e = ap length (after_absent lt o k xs n) in
-        omega (arith, l, e, length_parts k xs)
+    length_with k xs n = omega (arith, length-append (before lt k xs) (k ∷ after lt k xs), ap length (after_absent lt o k xs n), length_parts k xs)
 
     pub length_without : (k : K) (xs : List K) → Rising lt xs → has lt k xs ≡ true → length (without lt k xs) + 1 ≡ length xs
-    length_without k [] u h = absurd (both_ways false refl h)
-    length_without k (x ∷ xs) u h =
-        ⊎_elim
-        (λ (s : same lt x k ≡ true).
-        let f = same_is lt o x k s in
-        let n : has lt k xs ≡ false = rw (sym f) (above_absent lt x xs u.0) in
-        rw s (rw (without_absent k xs n) (omega arith)))
-        (λ (s : same lt x k ≡ false). rw s (omega (arith, length_without k xs u.1 (rw s at h))))
-        (cases_Bool (same lt x k))
+    length_without k [] u h = grind arith
+    length_without k (x ∷ xs) u h = grind (arith, length_without k xs u.1, same_is lt o x k, above_absent lt x xs u.0, without_absent k xs)

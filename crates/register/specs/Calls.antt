@@ -1,8 +1,8 @@
 -- What each call promises of a register that stands, over the keys kept before it and after it.
-use Rattle.std.specs.Prelude.{◌≡◌, ℕ, Bool, List, length, Option}
+use Rattle.std.specs.Prelude.{◌≡◌, ℕ, Bool, List, length, Option, Result}
 use Rattle.register.specs.declared.Register.{Register}
-use Rattle.register.specs.declared.answers.Put.{Put}
-use Rattle.register.specs.declared.answers.Out.{Out}
+use Rattle.register.specs.declared.answers.PutError.{PutError}
+use Rattle.register.specs.declared.answers.Absent.{Absent}
 use Rattle.register.specs.Lists.{before, from, between, without, first, last, if_before, if_from, Least, Greatest}
 use Rattle.register.specs.Kept.{kept, Stands}
 use Rattle.register.specs.Answers.{put_answer, put_keys, out_answer}
@@ -28,12 +28,12 @@ module _ {K : Type 0} (lt : K → K → Bool) where
 
   -- the register and the memory are named as they were, and primed as the call leaves them
   module _ (k : K) (register : Register K) (memory : List K) (register' : Register K) (memory' : List K) where
-    pub record Putting (answer : Put) : Type 0 where
+    pub record Putting (answer : Result Unit PutError) : Type 0 where
       pub value : answer ≡ put_answer lt k (kept register memory) (length memory)
       pub keys : kept register' memory' ≡ put_keys lt k answer (kept register memory)
       pub stands : Stands lt register' memory'
 
-    pub record TakingOut (answer : Out) : Type 0 where
+    pub record TakingOut (answer : Result Unit Absent) : Type 0 where
       pub value : answer ≡ out_answer lt k (kept register memory)
       pub keys : kept register' memory' ≡ without lt k (kept register memory)
       pub stands : Stands lt register' memory'

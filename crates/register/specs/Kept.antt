@@ -1,4 +1,5 @@
 -- The keys that a register keeps in its memory. Callers never open these two: the layout is the register's own.
+-- Register and memory are two arguments and no pair, as a call takes them: in a clause each has its own old and new value.
 use Rattle.std.specs.Prelude.{◌≤◌, Bool, List, length, take}
 use Rattle.register.specs.declared.Register.{Register}
 use Rattle.register.specs.Lists.{Rising}

@@ -1,5 +1,5 @@
 -- A place among keys that rise, and what stands there.
-use Rattle.std.specs.Prelude.{◌≡◌, ℕ, Bool, true, false, List, take, drop}
+use Rattle.std.specs.Prelude.{◌≡◌, ℕ, Bool, true, false, List, take, drop, Result, Ok, Err}
 use Rattle.std.specs.List.{insert, remove}
 use Rattle.register.specs.Lists.{before, from, has, with_key, without}
 
@@ -18,7 +18,7 @@ pub record Gap {K : Type 0} (lt : K → K → Bool) (k : K) (xs : List K) (at : 
   pub none : has lt k xs ≡ false
   pub more : with_key lt k xs ≡ insert xs at k
 
--- k stands at the place if it is present, and else would stand there
-abbrev pub Spotted : {K : Type 0} → (K → K → Bool) → K → List K → ℕ → Bool → Type 0
-Spotted lt k xs at true = Here lt k xs at
-Spotted lt k xs at false = Gap lt k xs at
+-- k stands at the place that is answered, or else would stand there
+abbrev pub Spotted : {K : Type 0} → (K → K → Bool) → K → List K → Result ℕ ℕ → Type 0
+Spotted lt k xs (Ok at) = Here lt k xs at
+Spotted lt k xs (Err at) = Gap lt k xs at

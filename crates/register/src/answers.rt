@@ -1,42 +1,14 @@
-//! What the calls that change a register answer.
-ghost use Rattle.std.specs.Prelude.{◌≡◌};
-ghost use Rattle.register.specs.Answers.{put_judged, out_judged};
+//! Why a call that changes a register is refused.
 
-/// What came of a key that was put.
+/// Why a key is not put.
 #[derive(Clone, Copy, PartialEq, Eq, Debug)]
-pub enum Put {
-    Entered,
+pub enum PutError {
+    /// It is in already.
     Present,
+    /// There is no place for it.
     Full,
 }
 
-impl Put {
-    // By whether the key is in, how many keys are, and how many places there are.
-    pub(crate) fn judged(present: bool, count: usize, places: usize) -> Put
-        ensures { result ≡ put_judged present count places }
-    {
-        if present {
-            Put::Present
-        } else if count < places {
-            Put::Entered
-        } else {
-            Put::Full
-        }
-    }
-}
-
-/// What came of a key that was to be taken out.
+/// The key that was to be taken out is not in.
 #[derive(Clone, Copy, PartialEq, Eq, Debug)]
-pub enum Out {
-    Taken,
-    Absent,
-}
-
-impl Out {
-    // By whether the key is in.
-    pub(crate) fn judged(present: bool) -> Out
-        ensures { result ≡ out_judged present }
-    {
-        if present { Out::Taken } else { Out::Absent }
-    }
-}
+pub struct Absent;

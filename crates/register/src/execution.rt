@@ -6,7 +6,7 @@ ghost use Rattle.register.specs.Orders.{execution_ordered};
 use crate::order::Key;
 
 /// A trade's execution moment among those of its day and security.
-#[derive(Clone, Copy, PartialEq, Eq, Debug)]
+#[derive(Clone, Copy, PartialEq, Eq, PartialOrd, Ord, Debug)]
 pub struct ExecutionKey {
     pub day: u32,
     pub security: u8,
@@ -20,15 +20,6 @@ impl Key for ExecutionKey {
     ghost ordered = { execution_ordered };
 
     fn before(self, other: ExecutionKey) -> bool {
-        if self.day != other.day {
-            return self.day < other.day;
-        }
-        if self.security != other.security {
-            return self.security < other.security;
-        }
-        if self.moment != other.moment {
-            return self.moment < other.moment;
-        }
-        self.serial < other.serial
+        self < other
     }
 }

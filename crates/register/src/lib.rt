@@ -3,8 +3,7 @@
 //! What a register keeps is `kept`, the list of its keys in order, and nothing else of the memory has a meaning to its caller.
 #![tactic(auto)]
 
-ghost use Rattle.std.specs.Prelude.{◌≡◌, ◌≤◌, List, [], length};
-ghost use Rattle.register.specs.Answers.{IfRefused, IfAbsent};
+ghost use Rattle.std.specs.Prelude.{◌≡◌, ◌≤◌, List, [], length, OnErr};
 ghost use Rattle.register.specs.Calls.{Smallest, Largest, FirstFrom, LastBefore, Putting, TakingOut, Dropping};
 ghost use Rattle.register.specs.Kept.{kept, Stands};
 ghost use Rattle.register.specs.Laws.{Laws};
@@ -18,19 +17,21 @@ mod places;
 pub mod price;
 pub mod publication;
 
-use answers::{Out, Put};
+use answers::{Absent, PutError};
 use moves::{close, open};
 pub use order::Key;
-use places::{find, key_at, last_of, place};
+use places::{find, gap, place};
 use std::marker::PhantomData;
 
 /// An ordered register of keys of one kind, which is lent the same memory at each call.
+// It has the count alone: any caller's memory may come in any call, so that its keys rise is a premise of each clause and no invariant.
 #[derive(Clone, Copy)]
 pub struct Register<K> {
     count: usize,
     kind: PhantomData<K>,
 }
 
+#[tactic(auto, using(crate::proofs::Calls::reads), unfolding(crate::specs::Kept::kept, crate::specs::Kept::Stands))]
 impl<K: Key> Register<K> {
     /// A register that keeps no key, over whatever memory.
     pub fn new() -> Register<K>
@@ -54,22 +55,21 @@ impl<K: Key> Register<K> {
         ensures value { result.now ≡ kept self.now memory.now }
         ensures within { length result.now ≤ length memory.now }
     {
-        &memory[0..self.count.min(memory.len())]
+        &memory[..self.count.min(memory.len())]
     }
 
     /// The smallest key.
     pub fn smallest(&self, memory: &[K]) -> Option<K>
         ensures { Stands K.below self.now memory.now → Smallest K.below (kept self.now memory.now) result }
     {
-        key_at(self.keys(memory), 0)
+        self.keys(memory).first().copied()
     }
 
     /// The largest key.
     pub fn largest(&self, memory: &[K]) -> Option<K>
         ensures { Stands K.below self.now memory.now → Largest K.below (kept self.now memory.now) result }
     {
-        let keys = self.keys(memory);
-        last_of(keys, keys.len())
+        self.keys(memory).last().copied()
     }
 
     /// The first key from `low` on. Where it is before a bound, it is the least key of the stretch from `low` to that bound.
@@ -77,7 +77,7 @@ impl<K: Key> Register<K> {
         ensures { Stands K.below self.now memory.now → FirstFrom K.below low (kept self.now memory.now) result }
     {
         let keys = self.keys(memory);
-        key_at(keys, place(keys, low))
+        keys[place(keys, low)..].first().copied()
     }
 
     /// The last key before `high`. Where it is not before a bound, it is the greatest key of the stretch from that bound to `high`.
@@ -85,7 +85,7 @@ impl<K: Key> Register<K> {
         ensures { Stands K.below self.now memory.now → LastBefore K.below high (kept self.now memory.now) result }
     {
         let keys = self.keys(memory);
-        last_of(keys, place(keys, high))
+        keys[..place(keys, high)].last().copied()
     }
 
     /// How many keys are before `high`.
@@ -94,37 +94,34 @@ impl<K: Key> Register<K> {
     {
         place(self.keys(memory), high)
     }
+}
 
-    /// Puts a key in its place.
-    pub fn put(&mut self, memory: &mut [K], key: K) -> Put
+#[tactic(auto, using(crate::proofs::Calls::changes), unfolding(crate::specs::Kept::kept, crate::specs::Kept::Stands))]
+impl<K: Key> Register<K> {
+    /// Puts a key in its place, unless it is in already or there is no place for it.
+    pub fn put(&mut self, memory: &mut [K], key: K) -> Result<(), PutError>
         ensures put { Stands K.below self.old memory.old → Putting K.below key self.old memory.old self.new memory.new result }
-        ensures refused { IfRefused result ((self.new ≡ self.old) × (memory.new ≡ memory.old)) }
+        ensures refused { OnErr result ((self.new ≡ self.old) × (memory.new ≡ memory.old)) }
     {
         let keys = self.keys(memory);
         let count = keys.len();
-        let spot = find(keys, key);
-        let answer = Put::judged(spot.present, count, memory.len());
-        if let Put::Entered = answer {
-            open(memory, spot.at, count, key);
-            *self = Register::keeping(count + 1);
-        }
-        answer
+        let at = gap(keys, key, memory.len())?;
+        open(memory, at, count, key);
+        *self = Register::keeping(count + 1);
+        Ok(())
     }
 
-    /// Takes a key out.
-    pub fn take_out(&mut self, memory: &mut [K], key: K) -> Out
+    /// Takes a key out, if it is in.
+    pub fn take_out(&mut self, memory: &mut [K], key: K) -> Result<(), Absent>
         ensures taken { Stands K.below self.old memory.old → TakingOut K.below key self.old memory.old self.new memory.new result }
-        ensures absent { IfAbsent result ((self.new ≡ self.old) × (memory.new ≡ memory.old)) }
+        ensures absent { OnErr result ((self.new ≡ self.old) × (memory.new ≡ memory.old)) }
     {
         let keys = self.keys(memory);
         let count = keys.len();
-        let spot = find(keys, key);
-        let answer = Out::judged(spot.present);
-        if let Out::Taken = answer {
-            close(memory, spot.at, spot.at + 1, count);
-            *self = Register::keeping(count - 1);
-        }
-        answer
+        let at = find(keys, key).ok().ok_or(Absent)?;
+        close(memory, at, at + 1, count);
+        *self = Register::keeping(count - 1);
+        Ok(())
     }
 
     /// Drops all keys before `low`, in one move, and says how many went.

@@ -6,7 +6,7 @@ ghost use Rattle.register.specs.Orders.{price_ordered};
 use crate::order::Key;
 
 /// A trade's price among those of its day and security.
-#[derive(Clone, Copy, PartialEq, Eq, Debug)]
+#[derive(Clone, Copy, PartialEq, Eq, PartialOrd, Ord, Debug)]
 pub struct PriceKey {
     pub day: u32,
     pub security: u8,
@@ -20,15 +20,6 @@ impl Key for PriceKey {
     ghost ordered = { price_ordered };
 
     fn before(self, other: PriceKey) -> bool {
-        if self.day != other.day {
-            return self.day < other.day;
-        }
-        if self.security != other.security {
-            return self.security < other.security;
-        }
-        if self.price != other.price {
-            return self.price < other.price;
-        }
-        self.serial < other.serial
+        self < other
     }
 }

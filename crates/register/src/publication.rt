@@ -6,7 +6,7 @@ ghost use Rattle.register.specs.Orders.{publication_ordered};
 use crate::order::Key;
 
 /// The moment at which a trade is to be published, with the trade's day and serial.
-#[derive(Clone, Copy, PartialEq, Eq, Debug)]
+#[derive(Clone, Copy, PartialEq, Eq, PartialOrd, Ord, Debug)]
 pub struct PublicationKey {
     pub moment: u64,
     pub day: u32,
@@ -19,12 +19,6 @@ impl Key for PublicationKey {
     ghost ordered = { publication_ordered };
 
     fn before(self, other: PublicationKey) -> bool {
-        if self.moment != other.moment {
-            return self.moment < other.moment;
-        }
-        if self.day != other.day {
-            return self.day < other.day;
-        }
-        self.serial < other.serial
+        self < other
     }
 }

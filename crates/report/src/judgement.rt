@@ -1,17 +1,18 @@
 //! A report judged against its security.
-ghost use Rattle.std.specs.Prelude.{◌≡◌, ◌≤◌, cond};
-ghost use Rattle.refusal.specs.Grounds.{first_ground};
+ghost use Rattle.std.specs.Prelude.{◌≡◌};
+ghost use Rattle.refusal.specs.Grounds.{first_ground, unless};
 ghost use Rattle.report.specs.Judged.{segment_number, flags_set, early_grounds, late_grounds};
 
 use super::report::{Capacity, Flags, Report, Waiver};
 use super::security::{Security, Segment};
-use deferral::judgement::sizes_ground;
+use deferral::judgement::check_sizes;
 use refusal::Refusal;
 
 /// A report has at most so many flags.
 const MOST_FLAGS: u8 = 3;
 
 impl Segment {
+    // By name and not by `From`: a segment is no number, it has one.
     /// The segment's place in the list of segments.
     pub fn number(self) -> u8
         ensures { result ≡ segment_number self }
@@ -25,6 +26,7 @@ impl Flags {
     pub fn count(&self) -> u8
         ensures { result ≡ flags_set self.now }
     {
+        // Written out, since of a sum over an array of the six it is not proved that it fits a byte.
         self.ah as u8
             + self.bb as u8
             + self.cp as u8
@@ -34,51 +36,34 @@ impl Flags {
     }
 }
 
-/// The first of the grounds that are judged before the execution moment: suspended, another segment, price or quantity, turnover.
-pub fn early_ground(report: &Report, security: &Security) -> Option<Refusal>
-    ensures { result ≡ first_ground (early_grounds report.now security.now) }
+/// Refuses what is judged before the execution moment: suspended, another segment, price or quantity, turnover.
+pub fn check_early(report: &Report, security: &Security) -> Result<(), Refusal>
+    ensures { result ≡ unless (first_ground (early_grounds report.now security.now)) tt }
 {
     if security.suspended {
-        return Some(Refusal::Suspended);
+        return Err(Refusal::Suspended);
     }
-    if report.segment.number() != security.segment.number() {
-        return Some(Refusal::OtherSegment);
+    if report.segment != security.segment {
+        return Err(Refusal::OtherSegment);
     }
-    sizes_ground(report.price as u64, report.quantity as u64)
+    check_sizes(u64::from(report.price), u64::from(report.quantity))
 }
 
-/// The first of the grounds that are judged after the execution moment: flags, counterparty, waiver, riskless principal as agent.
-pub fn late_ground(report: &Report, security: &Security) -> Option<Refusal>
-    ensures { result ≡ first_ground (late_grounds report.now security.now) }
+/// Refuses what is judged after the execution moment: flags, counterparty, waiver, riskless principal as agent.
+pub fn check_late(report: &Report, security: &Security) -> Result<(), Refusal>
+    ensures { result ≡ unless (first_ground (late_grounds report.now security.now)) tt }
 {
     if report.flags.count() > MOST_FLAGS {
-        return Some(Refusal::TooManyFlags);
+        return Err(Refusal::TooManyFlags);
     }
-    if report.counterparty.check().is_err() {
-        return Some(Refusal::WrongCounterparty);
-    }
+    report.counterparty.check()?;
     match report.waiver {
-        Some(Waiver::Nliq) => {
-            if !security.liquid {
-                return Some(Refusal::NegotiatedNotLiquid);
-            }
-            if security.nliq_suspended {
-                return Some(Refusal::NegotiatedSuspended);
-            }
+        Some(Waiver::Nliq) if !security.liquid => Err(Refusal::NegotiatedNotLiquid),
+        Some(Waiver::Nliq) if security.nliq_suspended => Err(Refusal::NegotiatedSuspended),
+        Some(Waiver::Oilq) if security.liquid => Err(Refusal::IlliquidButLiquid),
+        _ if report.flags.rp && report.capacity == Capacity::Aotc => {
+            Err(Refusal::RisklessPrincipalAsAgent)
         }
-        Some(Waiver::Oilq) => {
-            if security.liquid {
-                return Some(Refusal::IlliquidButLiquid);
-            }
-        }
-        Some(Waiver::Pric) | Some(Waiver::Lis) | None => {}
-    }
-    match report.capacity {
-        Capacity::Aotc => if report.flags.rp {
-            Some(Refusal::RisklessPrincipalAsAgent)
-        } else {
-            None
-        },
-        Capacity::Deal => None,
+        _ => Ok(()),
     }
 }

@@ -18,6 +18,7 @@ pub struct Place {
     pub number: u32,
 }
 
+// The fields that a report has too are written out, as they are on the tape: every reader of either takes them one by one.
 /// A line of the tape.
 #[derive(Clone, Copy)]
 pub struct Line {
@@ -33,6 +34,6 @@ pub struct Line {
     pub benc: bool,
     pub sdiv: bool,
     pub waiver: Option<Waiver>,
-    /// Of a cancellation, the line that it recalls.
+    /// Of a cancellation, the line that it recalls; of others zeros, as the exchange writes its lines.
     pub recalled: Place,
 }

@@ -11,10 +11,7 @@ impl Report {
     pub fn may_defer(&self) -> bool
         ensures { result ≡ may_defer self.now }
     {
-        match self.capacity {
-            Capacity::Aotc => false,
-            Capacity::Deal => !self.nodef && !self.actx,
-        }
+        !(self.nodef || self.actx || self.capacity == Capacity::Aotc)
     }
 
     /// The trade that a schedule and a calendar judge.
@@ -24,8 +21,8 @@ impl Report {
         Trade {
             class: security.class,
             daily: security.daily,
-            price: self.price as u64,
-            quantity: self.quantity as u64,
+            price: u64::from(self.price),
+            quantity: u64::from(self.quantity),
             execution: self.execution,
             deferrable: self.may_defer(),
         }
@@ -35,10 +32,6 @@ impl Report {
     pub fn makes_prices(&self) -> bool
         ensures { result ≡ makes_prices self.now }
     {
-        match self.waiver {
-            Some(Waiver::Pric) => false,
-            Some(Waiver::Nliq) | Some(Waiver::Oilq) | Some(Waiver::Lis) | None => !self.benc
-                && !self.sdiv,
-        }
+        !(self.benc || self.sdiv || self.waiver == Some(Waiver::Pric))
     }
 }

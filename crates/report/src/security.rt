@@ -22,7 +22,7 @@ pub struct Security {
     /// No trade may be negotiated under the waiver NLIQ for the time being.
     pub nliq_suspended: bool,
     pub suspended: bool,
-    /// In units of 0.0001 EUR; 0 where there is none.
+    /// In units of 0.0001 EUR; 0 where there is none, as the exchange lists it.
     pub reference: u32,
     /// How far a price may lie from the reference, in units of 0.0001 EUR.
     pub tolerance: u32,

@@ -43,9 +43,6 @@ impl State {
     pub fn survives(self) -> bool
         ensures { result ≡ survives self }
     {
-        match self {
-            State::Waiting | State::Published => true,
-            State::Dropped | State::Recalled => false,
-        }
+        matches!(self, State::Waiting | State::Published)
     }
 }

@@ -16,13 +16,14 @@ pub struct Warnings {
 pub fn warnings_of(report: &Report, security: &Security, expand: u8) -> Warnings
     ensures { result ≡ warned report.now security.now expand }
 {
-    let factor = match report.waiver {
-        Some(Waiver::Pric) => expand,
-        Some(Waiver::Nliq) | Some(Waiver::Oilq) | Some(Waiver::Lis) | None => 1,
+    let factor = if report.waiver == Some(Waiver::Pric) {
+        expand
+    } else {
+        1
     };
-    let tolerated = security.tolerance as u64 * factor as u64;
-    let reference = security.reference as u64;
-    let price = report.price as u64;
+    let tolerated = u64::from(security.tolerance) * u64::from(factor);
+    let reference = u64::from(security.reference);
+    let price = u64::from(report.price);
     let far = price < reference.saturating_sub(tolerated) || price > reference + tolerated;
     Warnings {
         price: reference != 0 && far,

@@ -2,34 +2,26 @@
 use crate::samples::{no_flags, report, security};
 use identifier::{Counterparty, Isin};
 use refusal::Refusal;
-use report::judgement::{early_ground, late_ground};
-use report::listing::listing_ground;
+use report::judgement::{check_early, check_late};
+use report::listing::check_listing;
 use report::report::{Capacity, Flags, Report, Waiver};
 use report::security::{Security, Segment};
 
-/// The number of a ground, or 0 where there is none.
-fn number(ground: Option<Refusal>) -> u8 {
-    match ground {
-        Some(refusal) => refusal.number(),
-        None => 0,
-    }
+fn early(report: Report, security: Security) -> Result<(), u8> {
+    check_early(&report, &security).map_err(Refusal::number)
 }
 
-fn early(report: Report, security: Security) -> u8 {
-    number(early_ground(&report, &security))
+fn late(report: Report, security: Security) -> Result<(), u8> {
+    check_late(&report, &security).map_err(Refusal::number)
 }
 
-fn late(report: Report, security: Security) -> u8 {
-    number(late_ground(&report, &security))
-}
-
-fn listing(security: Security) -> u8 {
-    number(listing_ground(&security))
+fn listing(security: Security) -> Result<(), u8> {
+    check_listing(&security).map_err(Refusal::number)
 }
 
 #[test]
 fn listings(rt: HostRuntime) {
-    assert_eq!(rt; listing(security()), 0);
+    assert_eq!(rt; listing(security()), Ok(()));
     assert_eq!(rt;
         listing(Security {
             isin: Isin {
@@ -38,28 +30,28 @@ fn listings(rt: HostRuntime) {
             cap: 0,
             ..security()
         }),
-        5
+        Err(5)
     );
     assert_eq!(rt;
         listing(Security {
             cap: 0,
             ..security()
         }),
-        6
+        Err(6)
     );
     assert_eq!(rt;
         listing(Security {
             cap: 1,
             ..security()
         }),
-        0
+        Ok(())
     );
     assert_eq!(rt;
         listing(Security {
             cap: 1_000_000_000,
             ..security()
         }),
-        6
+        Err(6)
     );
     assert_eq!(rt;
         listing(Security {
@@ -68,34 +60,34 @@ fn listings(rt: HostRuntime) {
             tolerance: 999_999_999,
             ..security()
         }),
-        0
+        Ok(())
     );
     assert_eq!(rt;
         listing(Security {
             daily: 1_000_000_000_000,
             ..security()
         }),
-        6
+        Err(6)
     );
     assert_eq!(rt;
         listing(Security {
             reference: 1_000_000_000,
             ..security()
         }),
-        6
+        Err(6)
     );
     assert_eq!(rt;
         listing(Security {
             tolerance: 1_000_000_000,
             ..security()
         }),
-        6
+        Err(6)
     );
 }
 
 #[test]
 fn before_the_execution_moment(rt: HostRuntime) {
-    assert_eq!(rt; early(report(), security()), 0);
+    assert_eq!(rt; early(report(), security()), Ok(()));
     assert_eq!(rt;
         early(
             Report {
@@ -107,7 +99,7 @@ fn before_the_execution_moment(rt: HostRuntime) {
                 ..security()
             },
         ),
-        13
+        Err(13)
     );
     assert_eq!(rt;
         early(
@@ -118,7 +110,7 @@ fn before_the_execution_moment(rt: HostRuntime) {
             },
             security(),
         ),
-        14
+        Err(14)
     );
     assert_eq!(rt;
         early(
@@ -128,7 +120,7 @@ fn before_the_execution_moment(rt: HostRuntime) {
             },
             security(),
         ),
-        15
+        Err(15)
     );
     assert_eq!(rt;
         early(
@@ -138,7 +130,7 @@ fn before_the_execution_moment(rt: HostRuntime) {
             },
             security(),
         ),
-        15
+        Err(15)
     );
     assert_eq!(rt;
         early(
@@ -149,7 +141,7 @@ fn before_the_execution_moment(rt: HostRuntime) {
             },
             security(),
         ),
-        0
+        Ok(())
     );
     assert_eq!(rt;
         early(
@@ -160,13 +152,13 @@ fn before_the_execution_moment(rt: HostRuntime) {
             },
             security(),
         ),
-        16
+        Err(16)
     );
 }
 
 #[test]
 fn flags_and_counterparties(rt: HostRuntime) {
-    assert_eq!(rt; late(report(), security()), 0);
+    assert_eq!(rt; late(report(), security()), Ok(()));
     let three = Flags {
         ah: true,
         bb: true,
@@ -181,7 +173,7 @@ fn flags_and_counterparties(rt: HostRuntime) {
             },
             security(),
         ),
-        0
+        Ok(())
     );
     let four = Flags { cp: true, ..three };
     let stranger = Counterparty::Lei(*b"0000000000000000A088");
@@ -194,7 +186,7 @@ fn flags_and_counterparties(rt: HostRuntime) {
             },
             security(),
         ),
-        18
+        Err(18)
     );
     assert_eq!(rt;
         late(
@@ -205,7 +197,7 @@ fn flags_and_counterparties(rt: HostRuntime) {
             },
             security(),
         ),
-        19
+        Err(19)
     );
 }
 
@@ -215,7 +207,7 @@ fn waivers(rt: HostRuntime) {
         waiver: Some(Waiver::Nliq),
         ..report()
     };
-    assert_eq!(rt; late(negotiated, security()), 0);
+    assert_eq!(rt; late(negotiated, security()), Ok(()));
     assert_eq!(rt;
         late(
             negotiated,
@@ -225,7 +217,7 @@ fn waivers(rt: HostRuntime) {
                 ..security()
             },
         ),
-        20
+        Err(20)
     );
     assert_eq!(rt;
         late(
@@ -235,13 +227,13 @@ fn waivers(rt: HostRuntime) {
                 ..security()
             },
         ),
-        21
+        Err(21)
     );
     let illiquid = Report {
         waiver: Some(Waiver::Oilq),
         ..report()
     };
-    assert_eq!(rt; late(illiquid, security()), 22);
+    assert_eq!(rt; late(illiquid, security()), Err(22));
     assert_eq!(rt;
         late(
             illiquid,
@@ -251,7 +243,7 @@ fn waivers(rt: HostRuntime) {
                 ..security()
             },
         ),
-        0
+        Ok(())
     );
     assert_eq!(rt;
         late(
@@ -261,7 +253,7 @@ fn waivers(rt: HostRuntime) {
             },
             security(),
         ),
-        0
+        Ok(())
     );
 }
 
@@ -274,7 +266,7 @@ fn riskless_principal(rt: HostRuntime) {
         },
         ..report()
     };
-    assert_eq!(rt; late(riskless, security()), 0);
+    assert_eq!(rt; late(riskless, security()), Ok(()));
     assert_eq!(rt;
         late(
             Report {
@@ -283,7 +275,7 @@ fn riskless_principal(rt: HostRuntime) {
             },
             security(),
         ),
-        23
+        Err(23)
     );
     assert_eq!(rt;
         late(
@@ -293,6 +285,6 @@ fn riskless_principal(rt: HostRuntime) {
             },
             security(),
         ),
-        0
+        Ok(())
     );
 }

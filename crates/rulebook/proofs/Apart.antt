@@ -46,7 +46,7 @@ read_off n d (c ∷ cs) h = let both = either (eqb c.day d) refl h in (both.0, r
         → All (λ x. n < x) (map (λ x. x.serial) (cond b (c ∷ filter (λ x. eqb x.day d) cs) (filter (λ x. eqb x.day d) cs)))
         → (d ≡ c.day → n < c.serial) × All (λ x. n < x) (serials_on cs d)
     either true e (p, h) = ((λ f. p), h)
-    either false e h = ((λ f. let z : ◌≡◌ {A = Bool} false true = sym e ∙ eq-eqb c.day d (sym f) in let y : ◌≡◌ {A = ℕ} 0 1 = cc in absurd (omega arith)), h)
+    either false e h = ((λ f. let z : ◌≡◌ {A = Bool} false true = sym e ∙ eq-eqb c.day d (sym f) in absurd cc), h)
 
 apart_from : (cs : List Code) → ((d : ℕ) → GoingOn (serials_on cs d)) → Apart cs
 apart_from [] h = tt
@@ -59,7 +59,7 @@ apart_from (c ∷ cs) h = (
         → GoingOn (map (λ x. x.serial) (cond b (c ∷ filter (λ x. eqb x.day c.day) cs) (filter (λ x. eqb x.day c.day) cs)))
         → All (λ x. c.serial < x) (serials_on cs c.day)
     here true e g = (going_on_rest c.serial (serials_on cs c.day) g).0
-    here false e g = let y : ◌≡◌ {A = ℕ} 0 1 = cc in absurd (omega arith)
+    here false e g = absurd cc
 
     rest : (b : Bool) (d : ℕ) → GoingOn (map (λ x. x.serial) (cond b (c ∷ filter (λ x. eqb x.day d) cs) (filter (λ x. eqb x.day d) cs)))
         → GoingOn (serials_on cs d)

@@ -34,7 +34,7 @@ open_day rules nb held e = by_days nb.days refl held.days (not-false _ e)
   where
     by_days : (ds : List Opened) → nb.days ≡ ds → All (Noted rules.calendar) ds → passes (λ o. open_at o nb.clock) (latest ds) ≡ true
         → OpenDay rules.calendar nb
-    by_days [] is all f = let z : ◌≡◌ {A = ℕ} 0 1 = cc in absurd (omega arith)
+    by_days [] is all f = absurd cc
     by_days (o ∷ os) is all f =
         record { day = o; day_is = ap latest is; noted = all.0; before_close = ltb-true _ _ (and_parts _ _ f).1 }
 
@@ -43,8 +43,8 @@ chosen : (x y d : Deadlines) (a b c : Bool) → cond a (cond b (Some x) (cond c 
     → ((b ≡ true) × (x ≡ d)) ⊎ ((c ≡ true) × (y ≡ d))
 chosen x y d true true c e = inl (refl, cc)
 chosen x y d true false true e = inr (refl, cc)
-chosen x y d true false false e = let z : ◌≡◌ {A = ℕ} 0 1 = cc in absurd (omega arith)
-chosen x y d false b c e = let z : ◌≡◌ {A = ℕ} 0 1 = cc in absurd (omega arith)
+chosen x y d true false false e = absurd cc
+chosen x y d false b c e = absurd cc
 
 entry_dates : (m : Meaning) (o : Opened) (clock execution : ℕ) (d : Deadlines) → Noted m o → deadlines_for o clock execution ≡ Some d
     → Dates m (day_of execution) d o.day

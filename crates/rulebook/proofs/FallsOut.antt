@@ -43,7 +43,7 @@ pub record Out (m : Meaning) (day : ℕ) (o : Opened) : Type 0 where
 
 among_out : (m : Meaning) (day : ℕ) (o p : Opened) (ds : List Opened) → p.day < o.day → All (Noted m) ds
     → All (λ q. (q.next ≤ p.day) × (q.day < p.day)) ds → among ds day ≡ true → Out m day o
-among_out m day o p [] h all near e = let z : ◌≡◌ {A = ℕ} 0 1 = cc in absurd (omega arith)
+among_out m day o p [] h all near e = absurd cc
 among_out m day o p (q ∷ qs) h all near e = by_test (eqb q.day day) refl (λ f. among_out m day o p qs h all.1 near.1 f) e
   where
     by_test : (b : Bool) → eqb q.day day ≡ b → (among qs day ≡ true → Out m day o) → cond b true (among qs day) ≡ true → Out m day o
@@ -57,17 +57,17 @@ among_out m day o p (q ∷ qs) h all near e = by_test (eqb q.day day) refl (λ f
 
 pub skipped : (b c : Bool) → cond b true c ≡ false → c ≡ false
 skipped false c e = e
-skipped true c e = let z : ◌≡◌ {A = ℕ} 0 1 = cc in absurd (omega arith)
+skipped true c e = absurd cc
 
 pub first_out : (a b c : Bool) → cond a true (cond b true c) ≡ true → cond a true (cond b true false) ≡ false → c ≡ true
 first_out false false c e f = e
-first_out false true c e f = let z : ◌≡◌ {A = ℕ} 0 1 = cc in absurd (omega arith)
-first_out true b c e f = let z : ◌≡◌ {A = ℕ} 0 1 = cc in absurd (omega arith)
+first_out false true c e f = absurd cc
+first_out true b c e f = absurd cc
 
 -- a day held that is held no longer once another is opened
 falls_out : (m : Meaning) (day : ℕ) (o : Opened) (ds : List Opened) → All (Noted m) ds → Spaced (o ∷ ds) → among ds day ≡ true
     → among (take 3 (o ∷ ds)) day ≡ false → Out m day o
-falls_out m day o [] all s a b = let z : ◌≡◌ {A = ℕ} 0 1 = cc in absurd (omega arith)
+falls_out m day o [] all s a b = absurd cc
 falls_out m day o (p ∷ []) all s a b = absurd (both_ways _ (skipped (eqb o.day day) _ b) a)
 falls_out m day o (p ∷ q ∷ qs) all s a b =
     let c = skipped (eqb o.day day) _ b in

@@ -60,11 +60,11 @@ pub record Passing {X : Type 0} (p : X → Bool) (x : Option X) : Type 0 where
   pub passed : p value ≡ true
 
 pub passing : {X : Type 0} (p : X → Bool) (x : Option X) → passes p x ≡ true → Passing p x
-passing p None e = let z : ◌≡◌ {A = ℕ} 0 1 = cc in absurd (omega arith)
+passing p None e = absurd cc
 passing p (Some x) e = record { value = x; is = refl; passed = e }
 
 pub some_passing : {X : Type 0} (x : Option X) → is_some x ≡ true → Passing (λ y. true) x
-some_passing None e = let z : ◌≡◌ {A = ℕ} 0 1 = cc in absurd (omega arith)
+some_passing None e = absurd cc
 some_passing (Some x) e = record { value = x; is = refl; passed = refl }
 
 -- the day that is open at the clock
@@ -75,7 +75,7 @@ pub record OpenAt (nb : Notebook) : Type 0 where
   pub before_close : nb.clock < day.hours.close
 
 latest_has : (P : Opened → Type 0) (o : Opened) (ds : List Opened) → All P ds → latest ds ≡ Some o → P o
-latest_has P o [] all e = let z : ◌≡◌ {A = ℕ} 0 1 = cc in absurd (omega arith)
+latest_has P o [] all e = absurd cc
 latest_has P o (p ∷ ps) all e = let same : p ≡ o = cc in subst P same all.0
 
 open_at_clock : (nb : Notebook) → All Proper nb.days → not (open_now nb) ≡ false → OpenAt nb
@@ -156,8 +156,8 @@ chosen_within : (next : ℕ) (x y d : Deadlines) (a b c : Bool) → Within next 
     → cond a (cond b (Some x) (cond c (Some y) None)) None ≡ Some d → (a ≡ true) × Within next d
 chosen_within next x y d true true c w v e = (refl, subst (Within next) (some_same x d e) w)
 chosen_within next x y d true false true w v e = (refl, subst (Within next) (some_same y d e) v)
-chosen_within next x y d true false false w v e = let z : ◌≡◌ {A = ℕ} 0 1 = cc in absurd (omega arith)
-chosen_within next x y d false b c w v e = let z : ◌≡◌ {A = ℕ} 0 1 = cc in absurd (omega arith)
+chosen_within next x y d true false false w v e = absurd cc
+chosen_within next x y d false b c w v e = absurd cc
 
 pub entry_fine : (rules : Rules) (d : Desk) (r : Report) (t : Record) → All Proper d.notebook.days → Apart d.notebook.days
     → ground rules d (Enter r) ≡ None → entered rules d.notebook r ≡ Some t → FineIn d.notebook t

@@ -1,5 +1,5 @@
 -- What is known where no ground is there.
-use Rattle.std.proofs.Common.{◌≡◌, ℕ, Bool, true, false, cond, List, [], ◌∷◌, Some, None, Option, refl, arith}
+use Rattle.std.proofs.Common.{◌≡◌, Bool, true, false, cond, List, [], ◌∷◌, Some, None, Option, refl}
 use Rattle.std.specs.List.{AllByRecursion as All}
 use Rattle.refusal.specs.declared.Refusal.{Refusal}
 use Rattle.refusal.specs.Grounds.{Ground, first_ground}
@@ -7,7 +7,7 @@ use Rattle.rulebook.specs.Lists.{and_then}
 
 first_not_there : (b : Bool) (r : Refusal) (rest : Option Refusal) → cond b (Some r) rest ≡ None → (b ≡ false) × (rest ≡ None)
 first_not_there false r rest e = (refl, e)
-first_not_there true r rest e = let z : ◌≡◌ {A = ℕ} 0 1 = cc in absurd (omega arith)
+first_not_there true r rest e = absurd cc
 
 -- where there is no first ground, none is there
 pub none_there : (gs : List Ground) → first_ground gs ≡ None → All (λ g. g.there ≡ false) gs
@@ -23,5 +23,5 @@ pub record Followed {X Y : Type 0} (x : Option X) (f : X → Option Y) (y : Y) :
   pub gives : f value ≡ Some y
 
 pub followed : {X Y : Type 0} (x : Option X) (f : X → Option Y) (y : Y) → and_then x f ≡ Some y → Followed x f y
-followed None f y e = let z : ◌≡◌ {A = ℕ} 0 1 = cc in absurd (omega arith)
+followed None f y e = absurd cc
 followed (Some x) f y e = record { value = x; is = refl; gives = e }

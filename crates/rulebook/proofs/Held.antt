@@ -59,7 +59,7 @@ spaced_take (suc n) (o ∷ os) s = (All-take _ n os s.0, spaced_take n os s.1)
 
 -- what holds of all holds of the first that passes
 pub first_has : {X : Type 0} (P : X → Type 0) (p : X → Bool) (x : X) (xs : List X) → All P xs → first_of p xs ≡ Some x → P x
-first_has P p x [] all e = let z : ◌≡◌ {A = ℕ} 0 1 = cc in absurd (omega arith)
+first_has P p x [] all e = absurd cc
 first_has {X} P p x (y ∷ ys) all e = by_test (p y) (λ f. first_has P p x ys all.1 f) e
   where
     by_test : (b : Bool) → (first_of p ys ≡ Some x → P x) → cond b (Some y) (first_of p ys) ≡ Some x → P x
@@ -68,7 +68,7 @@ first_has {X} P p x (y ∷ ys) all e = by_test (p y) (λ f. first_has P p x ys a
 
 -- a day among days that have a property has it
 pub among_has : (P : ℕ → Type 0) (day : ℕ) (ds : List Opened) → All (λ o. P o.day) ds → among ds day ≡ true → P day
-among_has P day [] all e = let z : ◌≡◌ {A = ℕ} 0 1 = cc in absurd (omega arith)
+among_has P day [] all e = absurd cc
 among_has P day (o ∷ os) all e = by_test (eqb o.day day) refl (λ g. among_has P day os all.1 g) e
   where
     by_test : (b : Bool) → eqb o.day day ≡ b → (among os day ≡ true → P day) → cond b true (among os day) ≡ true → P day
@@ -77,7 +77,7 @@ among_has P day (o ∷ os) all e = by_test (eqb o.day day) refl (λ g. among_has
 
 -- no day held is after the latest
 pub upto_latest : (day : ℕ) (o : Opened) (ds : List Opened) → Spaced ds → latest ds ≡ Some o → among ds day ≡ true → day ≤ o.day
-upto_latest day o [] s e a = let z : ◌≡◌ {A = ℕ} 0 1 = cc in absurd (omega arith)
+upto_latest day o [] s e a = absurd cc
 upto_latest day o (p ∷ ps) s e a =
     let same : p ≡ o = cc in
     subst (λ (x : Opened). day ≤ x.day) same

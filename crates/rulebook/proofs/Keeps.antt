@@ -36,11 +36,11 @@ use Rattle.rulebook.proofs.Grounds.{none_there}
 use Rattle.rulebook.proofs.Held.{Sound, SoundTrade, Spaced, Held, dates_timely, spaced_take}
 
 latest_day_is : (ds : List Opened) (o : Opened) → latest ds ≡ Some o → latest_day ds ≡ o.day
-latest_day_is [] o e = let z : ◌≡◌ {A = ℕ} 0 1 = cc in absurd (omega arith)
+latest_day_is [] o e = absurd cc
 latest_day_is (p ∷ ps) o e = let same : p ≡ o = cc in ap (λ (x : Opened). x.day) same
 
 pub latest_among : (ds : List Opened) (o : Opened) → latest ds ≡ Some o → among ds (latest_day ds) ≡ true
-latest_among [] o e = let z : ◌≡◌ {A = ℕ} 0 1 = cc in absurd (omega arith)
+latest_among [] o e = absurd cc
 latest_among (p ∷ ps) o e = cond-true (eqb p.day p.day) true (among ps p.day) (eq-eqb _ _ refl)
 
 highest : (t : Tier) → tier_number t ≤ 4

@@ -1,6 +1,7 @@
 -- The larger trade is never earlier, after every lawful history.
-use Rattle.std.proofs.Common.{◌≡◌, ℕ, ◌≤◌, Some, None, Option, sym, refl, ap, ◌∙◌, subst, arith}
+use Rattle.std.proofs.Common.{◌≡◌, ℕ, ◌≤◌, Some, None, Option, Ok, sym, refl, ap, ◌∙◌, subst}
 use Rattle.refusal.specs.declared.Refusal.{Refusal}
+use Rattle.refusal.specs.Grounds.{unless}
 use Rattle.calendar.specs.Meaning.{Meaning}
 use Rattle.deferral.specs.declared.deadlines.Deadlines.{Deadlines}
 use Rattle.deferral.specs.Judged.{published, AlikeButSize as AlikeTrades}
@@ -20,7 +21,7 @@ use Rattle.rulebook.specs.Notebook.{Rules, Notebook, security_of}
 use Rattle.rulebook.specs.Taken.{entered, amended}
 use Rattle.rulebook.specs.Desk.{Desk}
 use Rattle.rulebook.specs.Grounds.{ground}
-use Rattle.rulebook.specs.Answers.{receipt, answer_of, unless, answer_to}
+use Rattle.rulebook.specs.Answers.{receipt, answer_of, answer_to}
 use Rattle.rulebook.specs.Histories.{desk_after}
 use Rattle.rulebook.specs.Larger.{AlikeButSize, Brings, by_entry, by_amendment, LargerEverywhere}
 use Rattle.rulebook.proofs.Brought.{Brought, brought_by_entry, brought_by_amendment, some_same}
@@ -29,9 +30,9 @@ use Rattle.rulebook.proofs.Held.{Held, dates_timely}
 use Rattle.rulebook.proofs.Keeps.{held_after}
 
 -- a call that is answered with a receipt has no ground against it
-pub taken_parts : (g : Option Refusal) (a : Answer) (x : Receipt) → unless g a ≡ Taken x → (g ≡ None) × (a ≡ Taken x)
-taken_parts None a x e = (refl, e)
-taken_parts (Some r) a x e = let z : ◌≡◌ {A = ℕ} 0 1 = cc in absurd (omega arith)
+pub taken_parts : (g : Option Refusal) (a : Answer) (x : Receipt) → unless g a ≡ Ok (Taken x) → (g ≡ None) × (a ≡ Taken x)
+taken_parts None a x e = (refl, cc)
+taken_parts (Some r) a x e = absurd cc
 
 -- and a new trade, whose moment it tells
 pub record Told (new : Option Record) (x : Receipt) : Type 0 where
@@ -43,7 +44,7 @@ receipt_moment : (x y : Receipt) → Taken x ≡ Taken y → x.moment ≡ y.mome
 receipt_moment x y e = let same : x ≡ y = cc in ap (λ (z : Receipt). z.moment) same
 
 pub told : (rules : Rules) (nb : Notebook) (new : Option Record) (x : Receipt) → receipt rules nb new ≡ Taken x → Told new x
-told rules nb None x e = let z : ◌≡◌ {A = ℕ} 0 1 = cc in absurd (omega arith)
+told rules nb None x e = absurd cc
 told rules nb (Some t) x e = record { trade = t; is = refl; moment = receipt_moment _ x e }
 
 -- what is known of a report that would now be taken
@@ -53,7 +54,7 @@ pub record Tells (rules : Rules) (nb : Notebook) (r : Report) (x : Receipt) : Ty
   pub moment : trade.moment ≡ x.moment
 
 pub tells : (rules : Rules) (d : Desk) (c : Call) (r : Report) (x : Receipt) → Held rules d.notebook → Brings c r
-    → answer_to rules d c ≡ Taken x → Tells rules d.notebook r x
+    → answer_to rules d c ≡ Ok (Taken x) → Tells rules d.notebook r x
 tells rules d _ _ x held (by_entry {r}) e =
     let p = taken_parts (ground rules d (Enter r)) (answer_of rules d (Enter r)) x e in
     let t = told rules d.notebook (entered rules d.notebook r) x p.1 in

@@ -23,10 +23,10 @@ opened_noted m day o e = by_cases (trading m day) (previous_trading_day m day) (
     by_cases : (b : Bool) (p n : Option ℕ) → ((d : ℕ) → n ≡ Some d → day < d) → cond b (with_neighbours m day p n) (Err NoTradingDay) ≡ Ok o → Noted day o
     by_cases true (Some p) (Some n) after e =
         let same : opened_with m day p n ≡ o = cc in subst (λ (x : Opened). Noted day x) same (record { is = refl; onward = after n refl })
-    by_cases true (Some p) None after e = let z : ◌≡◌ {A = ℕ} 0 1 = cc in absurd (omega arith)
-    by_cases true None (Some n) after e = let z : ◌≡◌ {A = ℕ} 0 1 = cc in absurd (omega arith)
-    by_cases true None None after e = let z : ◌≡◌ {A = ℕ} 0 1 = cc in absurd (omega arith)
-    by_cases false p n after e = let z : ◌≡◌ {A = ℕ} 0 1 = cc in absurd (omega arith)
+    by_cases true (Some p) None after e = absurd cc
+    by_cases true None (Some n) after e = absurd cc
+    by_cases true None None after e = absurd cc
+    by_cases false p n after e = absurd cc
 
 -- a day that is not too early lies after what was reached
 pub not_early : (days : List Opened) (day : ℕ) → All (λ o. o.day < o.next) days → passes (λ o. ltb day o.next) (latest days) ≡ false → Past days day

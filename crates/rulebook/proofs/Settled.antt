@@ -1,5 +1,5 @@
 -- Once what is due is published, no trade that waits is due.
-use Rattle.std.proofs.Common.{◌≡◌, ℕ, ◌+◌, Bool, true, false, cond, leb, List, [], ◌∷◌, filter, refl, ap, ◌∙◌, subst, inl, inr, arith}
+use Rattle.std.proofs.Common.{◌≡◌, ℕ, ◌+◌, Bool, true, false, cond, leb, List, [], ◌∷◌, filter, refl, ap, ◌∙◌, subst, inl, inr}
 use Rattle.std.specs.List.{AllByRecursion as All}
 use Rattle.std.proofs.ByRecursion.{All-weaker}
 use Rattle.std.proofs.lemmas.Bool.{and_left, and_from, eq-eqb, cases_Bool, both_ways, cond_both}
@@ -62,7 +62,7 @@ kept_named p (t ∷ ts) = (here (p t), passing_named p t (filter p ts) ts (kept_
   where
     here : (b : Bool) → b ≡ true → named (cond b (t ∷ filter p ts) (filter p ts)) t ≡ true
     here true e = ap (λ (c : Bool). cond c true (named (filter p ts) t)) (same_code_refl t.code)
-    here false e = let z : ◌≡◌ {A = ℕ} 0 1 = cc in absurd (omega arith)
+    here false e = absurd cc
 
 pub due_waits_not : (s : State) → waits (after s Due) ≡ false
 due_waits_not Waiting = refl

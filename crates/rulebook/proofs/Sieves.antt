@@ -1,5 +1,5 @@
 -- What passes a test, of lists that are mapped or tested twice.
-use Rattle.std.proofs.Common.{◌≡◌, ℕ, zero, suc, Bool, true, false, cond, ◌&&◌, ◌⊎◌, List, [], ◌∷◌, map, Some, filter, refl, ap, ◌∙◌, inl, inr, arith}
+use Rattle.std.proofs.Common.{◌≡◌, zero, suc, Bool, true, false, cond, ◌&&◌, ◌⊎◌, List, [], ◌∷◌, map, Some, filter, refl, ap, ◌∙◌, inl, inr, arith}
 use Rattle.std.specs.List.{ContainsAt as Has, AllByRecursion as All}
 use Rattle.rulebook.specs.Lists.{first_of, some_of, passes}
 
@@ -72,7 +72,7 @@ module _ {X : Type 0} where
     where
       either : (b : Bool) → cond b true (some_of p xs) ≡ false → (b ≡ false) × (some_of p xs ≡ false)
       either false e = (refl, e)
-      either true e = let z : ◌≡◌ {A = ℕ} 0 1 = cc in absurd (omega arith)
+      either true e = absurd cc
 
   pub passes_none : (q p : X → Bool) (xs : List X) → All (λ x. p x ≡ false) xs → passes q (first_of p xs) ≡ false
   passes_none q p [] h = refl

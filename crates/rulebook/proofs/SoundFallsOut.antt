@@ -24,7 +24,7 @@ use Rattle.rulebook.proofs.SoundSteps.{spaced_now}
 -- a trade of a day held that is held no longer was to be seen before the day that is opened
 seen_before : (o : Opened) (ds : List Opened) (t : Record) → Apart (o ∷ ds) → Timed ds t → among ds t.code.day ≡ true
     → among (take 3 (o ∷ ds)) t.code.day ≡ false → t.moment ≤ o.day * 86400
-seen_before o [] t apart timed a b = let z : ◌≡◌ {A = ℕ} 0 1 = cc in absurd (omega arith)
+seen_before o [] t apart timed a b = absurd cc
 seen_before o (p ∷ []) t apart timed a b = absurd (both_ways _ (skipped (eqb o.day t.code.day) _ b) a)
 seen_before o (p ∷ q ∷ qs) t apart timed a b =
     let day : ℕ = t.code.day in

@@ -117,7 +117,7 @@ found_more false x y e = e
 
 stays_listed : (isin : Isin) (s : Security) (xs : List Security) → is_some (first_of (λ x. same_isin x.isin isin) xs) ≡ true
     → is_some (first_of (λ x. same_isin x.isin isin) (with_security s xs)) ≡ true
-stays_listed isin s [] e = let z : ◌≡◌ {A = ℕ} 0 1 = cc in absurd (omega arith)
+stays_listed isin s [] e = absurd cc
 stays_listed isin s (x ∷ xs) e = by_tests (same_isin x.isin s.isin) (same_isin x.isin isin) refl refl e (stays_listed isin s xs)
   where
     by_tests : (a b : Bool) → same_isin x.isin s.isin ≡ a → same_isin x.isin isin ≡ b
@@ -137,7 +137,7 @@ stays_listed isin s (x ∷ xs) e = by_tests (same_isin x.isin s.isin) (same_isin
 length_with_security : (s : Security) (xs : List Security)
     → (length (with_security s xs) ≤ length xs + 1)
     × (is_some (first_of (λ x. same_isin x.isin s.isin) xs) ≡ true → length (with_security s xs) ≡ length xs)
-length_with_security s [] = (omega arith, λ e. let z : ◌≡◌ {A = ℕ} 0 1 = cc in absurd (omega arith))
+length_with_security s [] = (omega arith, λ e. absurd cc)
 length_with_security s (x ∷ xs) = by_test (same_isin x.isin s.isin) (length_with_security s xs)
   where
     by_test : (b : Bool)

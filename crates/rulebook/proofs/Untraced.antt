@@ -16,10 +16,9 @@ use Rattle.rulebook.specs.Grounds.{ground, figures_grounds}
 use Rattle.rulebook.specs.Histories.{Entry, History, taking, refusing, step, fed, desk_after, Rightly, Lawful, carried_from, notebook_after}
 use Rattle.rulebook.specs.Trace.{Alike, done, same, both_refused, entries, amendments, NoTrace}
 use Rattle.refusal.specs.declared.Refusal.{Refusal}
-use Rattle.refusal.specs.Grounds.{first_ground}
+use Rattle.refusal.specs.Grounds.{first_ground, unless}
 use Rattle.report.specs.declared.figures.Figures.{Figures}
 use Rattle.rulebook.specs.declared.call.Answer.TheVariants.{Counted}
-use Rattle.rulebook.specs.Answers.{unless}
 use Rattle.rulebook.proofs.Always.{none_from}
 use Rattle.rulebook.proofs.Dated.{deadlines_on, dated}
 use Rattle.rulebook.proofs.Held.{first_has}

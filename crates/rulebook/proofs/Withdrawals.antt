@@ -1,5 +1,5 @@
 -- What the call that takes a trade and the call that withdraws it do to the trades beside it.
-use Rattle.std.proofs.Common.{◌≡◌, ℕ, Bool, true, false, cond, not, ◌&&◌, eqb, List, [], ◌∷◌, ◌++◌, map, Some, None, filter, Option, sym, refl, ap, ◌∙◌, arith}
+use Rattle.std.proofs.Common.{◌≡◌, Bool, true, false, cond, not, ◌&&◌, eqb, List, [], ◌∷◌, ◌++◌, map, Some, None, filter, Option, sym, refl, ap, ◌∙◌}
 use Rattle.std.proofs.lemmas.List.Elements.{filter-append}
 use Rattle.std.proofs.ByRecursion.{All-weaker}
 use Rattle.std.proofs.lemmas.List.{map-append}
@@ -30,40 +30,40 @@ use Rattle.rulebook.proofs.Views.{beside, on_list, surviving, on_changed, view_o
 -- the call that takes the trade adds it, and leaves the others beside it
 pub taken_on : (t : Record) (rules : Rules) (nb : Notebook) (c : Call) → Sound nb → new_record rules nb c ≡ Some t
     → takes_from nb t.report.isin t.code.day c ≡ false → on_list t (noted rules nb c).records ≡ on_list t nb.records ++ on_list t (t ∷ [])
-taken_on t rules nb (Listing s) w e f = let z : ◌≡◌ {A = ℕ} 0 1 = cc in absurd (omega arith)
-taken_on t rules nb (Advance moment) w e f = let z : ◌≡◌ {A = ℕ} 0 1 = cc in absurd (omega arith)
-taken_on t rules nb Open w e f = let z : ◌≡◌ {A = ℕ} 0 1 = cc in absurd (omega arith)
+taken_on t rules nb (Listing s) w e f = absurd cc
+taken_on t rules nb (Advance moment) w e f = absurd cc
+taken_on t rules nb Open w e f = absurd cc
 taken_on t rules nb (Enter r) w e f =
     ap (λ (o : Option Record). on_list t (with_new o nb).records) e ∙ filter-append (beside t) nb.records (t ∷ [])
 taken_on t rules nb (Amend code r) w e f =
     ap (λ (o : Option Record). on_list t (with_new o (without code nb)).records) e
     ∙ filter-append (beside t) (without code nb).records (t ∷ []) ∙ ap (λ (us : List Record). us ++ on_list t (t ∷ [])) (on_without t code nb w f)
-taken_on t rules nb (Cancel member code) w e f = let z : ◌≡◌ {A = ℕ} 0 1 = cc in absurd (omega arith)
-taken_on t rules nb (CarryAway room) w e f = let z : ◌≡◌ {A = ℕ} 0 1 = cc in absurd (omega arith)
-taken_on t rules nb (Figures isin day sheet) w e f = let z : ◌≡◌ {A = ℕ} 0 1 = cc in absurd (omega arith)
+taken_on t rules nb (Cancel member code) w e f = absurd cc
+taken_on t rules nb (CarryAway room) w e f = absurd cc
+taken_on t rules nb (Figures isin day sheet) w e f = absurd cc
 
 pub taken_codes : (t : Record) (rules : Rules) (nb : Notebook) (c : Call) → new_record rules nb c ≡ Some t
     → codes_of (noted rules nb c).records ≡ codes_of nb.records ++ t.code ∷ []
-taken_codes t rules nb (Listing s) e = let z : ◌≡◌ {A = ℕ} 0 1 = cc in absurd (omega arith)
-taken_codes t rules nb (Advance moment) e = let z : ◌≡◌ {A = ℕ} 0 1 = cc in absurd (omega arith)
-taken_codes t rules nb Open e = let z : ◌≡◌ {A = ℕ} 0 1 = cc in absurd (omega arith)
+taken_codes t rules nb (Listing s) e = absurd cc
+taken_codes t rules nb (Advance moment) e = absurd cc
+taken_codes t rules nb Open e = absurd cc
 taken_codes t rules nb (Enter r) e =
     ap (λ (o : Option Record). codes_of (with_new o nb).records) e ∙ map-append (λ u. u.code) nb.records (t ∷ [])
 taken_codes t rules nb (Amend code r) e =
     ap (λ (o : Option Record). codes_of (with_new o (without code nb)).records) e
     ∙ map-append (λ u. u.code) (without code nb).records (t ∷ [])
     ∙ ap (λ (cs : List Code). cs ++ t.code ∷ []) (changed_codes code withdrawn (λ u. refl) nb.records)
-taken_codes t rules nb (Cancel member code) e = let z : ◌≡◌ {A = ℕ} 0 1 = cc in absurd (omega arith)
-taken_codes t rules nb (CarryAway room) e = let z : ◌≡◌ {A = ℕ} 0 1 = cc in absurd (omega arith)
-taken_codes t rules nb (Figures isin day sheet) e = let z : ◌≡◌ {A = ℕ} 0 1 = cc in absurd (omega arith)
+taken_codes t rules nb (Cancel member code) e = absurd cc
+taken_codes t rules nb (CarryAway room) e = absurd cc
+taken_codes t rules nb (Figures isin day sheet) e = absurd cc
 
 -- the call that withdraws it changes it alone
 pub gone_on : (t : Record) (rules : Rules) (nb : Notebook) (w : Call) → withdraws w ≡ Some t.code → brings_to rules nb t.report.isin t.code.day w ≡ false
     → on_list t (noted rules nb w).records ≡ changed t.code withdrawn (on_list t nb.records)
-gone_on t rules nb (Listing s) e f = let z : ◌≡◌ {A = ℕ} 0 1 = cc in absurd (omega arith)
-gone_on t rules nb (Advance moment) e f = let z : ◌≡◌ {A = ℕ} 0 1 = cc in absurd (omega arith)
-gone_on t rules nb Open e f = let z : ◌≡◌ {A = ℕ} 0 1 = cc in absurd (omega arith)
-gone_on t rules nb (Enter r) e f = let z : ◌≡◌ {A = ℕ} 0 1 = cc in absurd (omega arith)
+gone_on t rules nb (Listing s) e f = absurd cc
+gone_on t rules nb (Advance moment) e f = absurd cc
+gone_on t rules nb Open e f = absurd cc
+gone_on t rules nb (Enter r) e f = absurd cc
 gone_on t rules nb (Amend code r) e f =
     let same : code ≡ t.code = cc in
     on_new t (amended rules nb code r) (without code nb) f ∙ on_changed t code withdrawn (λ u. refl) nb.records
@@ -71,8 +71,8 @@ gone_on t rules nb (Amend code r) e f =
 gone_on t rules nb (Cancel member code) e f =
     let same : code ≡ t.code = cc in
     on_changed t code withdrawn (λ u. refl) nb.records ∙ ap (λ (c : Code). changed c withdrawn (on_list t nb.records)) same
-gone_on t rules nb (CarryAway room) e f = let z : ◌≡◌ {A = ℕ} 0 1 = cc in absurd (omega arith)
-gone_on t rules nb (Figures isin day sheet) e f = let z : ◌≡◌ {A = ℕ} 0 1 = cc in absurd (omega arith)
+gone_on t rules nb (CarryAway room) e f = absurd cc
+gone_on t rules nb (Figures isin day sheet) e f = absurd cc
 
 -- a trade whose day fell out cannot be withdrawn
 no_trade : (t : Record) (nb : Notebook) (p : Record → Bool) (code : Code) → code ≡ t.code → Lost t nb.days (codes_of nb.records) → not (passes p (record_of nb code)) ≡ false → ⊥
@@ -87,16 +87,16 @@ no_trade t nb p code same lost e =
 
 pub not_lost : (t : Record) (rules : Rules) (d : Desk) (w : Call) → withdraws w ≡ Some t.code → ground rules d w ≡ None
     → Lost t d.notebook.days (codes_of d.notebook.records) → ⊥
-not_lost t rules d (Listing s) e g lost = let z : ◌≡◌ {A = ℕ} 0 1 = cc in omega arith
-not_lost t rules d (Advance moment) e g lost = let z : ◌≡◌ {A = ℕ} 0 1 = cc in omega arith
-not_lost t rules d Open e g lost = let z : ◌≡◌ {A = ℕ} 0 1 = cc in omega arith
-not_lost t rules d (Enter r) e g lost = let z : ◌≡◌ {A = ℕ} 0 1 = cc in omega arith
+not_lost t rules d (Listing s) e g lost = cc
+not_lost t rules d (Advance moment) e g lost = cc
+not_lost t rules d Open e g lost = cc
+not_lost t rules d (Enter r) e g lost = cc
 not_lost t rules d (Amend code r) e g lost =
     no_trade t d.notebook (is_of r.member) code (cc) lost (none_there (amend_grounds rules d code r) g).1.0
 not_lost t rules d (Cancel member code) e g lost =
     no_trade t d.notebook (is_of member) code (cc) lost (none_there (cancel_grounds rules d member code) g).1.0
-not_lost t rules d (CarryAway room) e g lost = let z : ◌≡◌ {A = ℕ} 0 1 = cc in omega arith
-not_lost t rules d (Figures isin day sheet) e g lost = let z : ◌≡◌ {A = ℕ} 0 1 = cc in omega arith
+not_lost t rules d (CarryAway room) e g lost = cc
+not_lost t rules d (Figures isin day sheet) e g lost = cc
 
 -- a trade that is withdrawn does not survive, whatever its state
 pub withdrawn_gone : (x : State) → survives (after x Withdrawing) ≡ false

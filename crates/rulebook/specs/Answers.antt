@@ -1,12 +1,13 @@
 -- What each call answers.
-use Rattle.std.specs.Prelude.{false, length, Some, None, Option}
+use Rattle.std.specs.Prelude.{false, length, Some, None, Option, Result}
 use Rattle.refusal.specs.declared.Refusal.{Refusal}
+use Rattle.refusal.specs.Grounds.{unless}
 use Rattle.report.specs.declared.report.Report.{Report}
 use Rattle.report.specs.declared.security.Security.{Security}
 use Rattle.report.specs.declared.warnings.Warnings.{Warnings}
 use Rattle.report.specs.Warned.{warned}
 use Rattle.rulebook.specs.declared.call.Answer.{Answer}
-use Rattle.rulebook.specs.declared.call.Answer.TheVariants.{Refused, Done, Advanced, Taken, Carried, Counted}
+use Rattle.rulebook.specs.declared.call.Answer.TheVariants.{Done, Advanced, Taken, Carried, Counted}
 use Rattle.rulebook.specs.declared.call.Call.{Call}
 use Rattle.rulebook.specs.declared.call.Call.TheVariants.{List as Listing, Advance, Open, Enter, Amend, Cancel, CarryAway, Figures}
 use Rattle.rulebook.specs.declared.record.Record.{Record}
@@ -40,9 +41,5 @@ answer_of rules d (CarryAway room) = Carried (length d.standing)
 answer_of rules d (Figures isin day sheet) = Counted (sheet_of d.notebook isin day sheet)
 
 -- the first ground, or else what the call answers
-abbrev pub unless : Option Refusal → Answer → Answer
-unless None a = a
-unless (Some r) a = Refused r
-
-abbrev pub answer_to : Rules → Desk → Call → Answer
+abbrev pub answer_to : Rules → Desk → Call → Result Answer Refusal
 answer_to rules d call = unless (ground rules d call) (answer_of rules d call)

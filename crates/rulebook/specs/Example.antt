@@ -1,5 +1,6 @@
 -- The worked example: two trades of one equity on 8 May 2018, of which the market sees one at once.
-use Rattle.std.specs.Prelude.{◌≡◌, ℕ, true, false, [], ◌∷◌, ◌++◌, Some, None, codes}
+use Rattle.std.specs.Prelude.{◌≡◌, ℕ, true, false, [], ◌∷◌, ◌++◌, Some, None, Ok, codes, Result}
+use Rattle.refusal.specs.declared.Refusal.{Refusal}
 use Rattle.civil.specs.Dates.{day_number}
 use Rattle.civil.specs.declared.month.Month.TheVariants.{May}
 use Rattle.identifier.specs.declared.counterparty.Counterparty.TheVariants.{Lei}
@@ -97,8 +98,8 @@ abbrev pub two_trades : History
 two_trades = one_trade ++ taking (Enter second_trade) ∷ []
 
 -- taken with that serial, to be seen at that moment, without a warning
-abbrev pub taken_as : ℕ → ℕ → Answer
-taken_as serial moment = Taken (record { code = code serial; moment = moment; warnings = record { price = false; quantity = false } })
+abbrev pub taken_as : ℕ → ℕ → Result Answer Refusal
+taken_as serial moment = Ok (Taken (record { code = code serial; moment = moment; warnings = record { price = false; quantity = false } }))
 
 -- the one line of the tape tells of the first trade
 abbrev pub the_line : Line
@@ -136,6 +137,6 @@ pub record WorkedExample (m : Meaning) : Type 0 where
   pub full_sheet : sheet_of (notebook_after (book m) two_trades) the_isin the_day Full ≡ all
   pub one_line : tape (book m) two_trades ≡ the_line ∷ []
   -- the second waits to 10:00:00, when it joins the first on the public sheet
-  pub waits : answer_to (book m) (desk_after (book m) two_trades) (Advance (on_8_may 9 59 59)) ≡ Advanced 0
-  pub falls_due : answer_to (book m) (desk_after (book m) two_trades) (Advance (on_8_may 10 0 0)) ≡ Advanced 1
+  pub waits : answer_to (book m) (desk_after (book m) two_trades) (Advance (on_8_may 9 59 59)) ≡ Ok (Advanced 0)
+  pub falls_due : answer_to (book m) (desk_after (book m) two_trades) (Advance (on_8_may 10 0 0)) ≡ Ok (Advanced 1)
   pub then_seen : sheet_of (notebook_after (book m) (two_trades ++ taking (Advance (on_8_may 10 0 0)) ∷ [])) the_isin the_day Public ≡ all

@@ -1,5 +1,5 @@
 -- The larger trade is never earlier.
-use Rattle.std.specs.Prelude.{◌≡◌, ◌*◌, ◌≤◌}
+use Rattle.std.specs.Prelude.{◌≡◌, ◌*◌, ◌≤◌, Ok}
 use Rattle.calendar.specs.Meaning.{Lawful as Kept}
 use Rattle.deferral.specs.Tiers.{Rises}
 use Rattle.report.specs.declared.report.Code.{Code}
@@ -30,7 +30,7 @@ abbrev pub LargerNeverEarlier : Rules → Type 0
 LargerNeverEarlier rules =
     (h : History) → Lawful rules h → (c d : Call) (r q : Report) (x y : Receipt) → Brings c r → Brings d q → AlikeButSize r q
     → r.price * r.quantity ≤ q.price * q.quantity
-    → answer_to rules (desk_after rules h) c ≡ Taken x → answer_to rules (desk_after rules h) d ≡ Taken y → x.moment ≤ y.moment
+    → answer_to rules (desk_after rules h) c ≡ Ok (Taken x) → answer_to rules (desk_after rules h) d ≡ Ok (Taken y) → x.moment ≤ y.moment
 
 abbrev pub LargerEverywhere : Type 0
 LargerEverywhere = (rules : Rules) → Kept rules.calendar → Rises rules.tier → LargerNeverEarlier rules

@@ -1,7 +1,7 @@
 //! The calls on a book, and what they answer.
 ghost use Rattle.std.specs.Prelude.{◌≡◌};
-ghost use Rattle.refusal.specs.Grounds.{first_ground};
-ghost use Rattle.rulebook.specs.Sizing.{is_between, make_grounds};
+ghost use Rattle.refusal.specs.Grounds.{first_ground, unless};
+ghost use Rattle.rulebook.specs.Sizing.{make_grounds};
 
 use identifier::{Isin, Member};
 use refusal::Refusal;
@@ -20,22 +20,16 @@ pub struct Sizes {
 }
 
 impl Sizes {
-    /// The ground against making a book of these sizes.
-    pub fn ground(&self) -> Option<Refusal>
-        ensures { result ≡ first_ground (make_grounds self.now) }
+    /// Refuses to make a book of these sizes, where one of them is not allowed.
+    pub fn check(&self) -> Result<(), Refusal>
+        ensures { result ≡ unless (first_ground (make_grounds self.now)) tt }
     {
-        let allowed = is_between(self.records, 1, 4_096)
-            && is_between(self.securities, 1, 64)
-            && is_between(self.lines, 2, 8_192)
-            && is_between(self.expand as usize, 1, 100);
-        if allowed { None } else { Some(Refusal::Sizes) }
+        let allowed = (1..=4_096).contains(&self.records)
+            && (1..=64).contains(&self.securities)
+            && (2..=8_192).contains(&self.lines)
+            && (1..=100).contains(&self.expand);
+        if allowed { Ok(()) } else { Err(Refusal::Sizes) }
     }
-}
-
-fn is_between(number: usize, least: usize, most: usize) -> bool
-    ensures { result ≡ is_between least most number }
-{
-    least <= number && number <= most
 }
 
 /// A call on a book.
@@ -68,10 +62,9 @@ pub struct Receipt {
     pub warnings: Warnings,
 }
 
-/// What a call answers.
+/// What a call answers that is taken; a refused one answers its refusal.
 #[derive(Clone, Copy)]
 pub enum Answer {
-    Refused(Refusal),
     /// Listed, opened or cancelled.
     Done,
     /// How many trades were published.

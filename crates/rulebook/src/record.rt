@@ -16,6 +16,6 @@ pub struct Record {
     /// Did an amendment make it?
     pub amended: bool,
     pub state: State,
-    /// The line that told of it; zeros before there is one.
+    /// The line that told of it; zeros before there is one, for a line that recalls it copies this as it is.
     pub place: Place,
 }

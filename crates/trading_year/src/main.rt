@@ -2,30 +2,27 @@
 
 #![tactic(auto)]
 
+mod fault;
 mod page;
 mod request;
+mod year;
 
 use almanac::line::day_line;
 use calendar::rule::RuleCalendar;
-use civil::date::day_number;
-use civil::month::Month;
+use fault::Fault;
 use page::print_page;
-use request::{Fault, Request, read_request};
+use request::{Request, read_request};
 use std::alloc::Global;
 use std::io::{BufWriter, Write};
+use std::ops::Range;
 use std::process::ExitCode;
 use std::{env, io};
 
 const USAGE: &str =
     "usage: trading_year YEAR | trading_year YEAR --days | trading_year FIRST LAST --days, with years from 2000 to 2199";
 
-fn print_days<W: Write>(heap: Global, out: &mut W, first: u32, last: u32) -> io::Result<()> {
-    let start = day_number(first, Month::January, 1);
-    let end = day_number(last, Month::December, 31);
-    for day in start..=end {
-        let Ok(day) = u32::try_from(day) else {
-            break;
-        };
+fn print_days<W: Write>(heap: Global, out: &mut W, days: Range<u32>) -> io::Result<()> {
+    for day in days {
         if let Some(line) = day_line(heap, &RuleCalendar, day)? {
             writeln!(out, "{line}")?;
         }
@@ -37,7 +34,7 @@ fn answer(rt: &HostRuntime, asked: Request) -> io::Result<()> {
     let mut out = BufWriter::new(rt.alloc(), rt.stdout())?;
     match asked {
         Request::Page(year) => print_page(&mut out, year)?,
-        Request::Days(first, last) => print_days(rt.alloc(), &mut out, first, last)?,
+        Request::Days(first, last) => print_days(rt.alloc(), &mut out, first.days_until(last))?,
     }
     out.flush()
 }

@@ -1,78 +1,66 @@
 //! A year's trading calendar as a page.
+use super::year::Year;
 use almanac::closing::Closing;
 use almanac::tally::{Tally, tally_of};
 use calendar::calendar::Calendar;
-use calendar::day::{Day, Kind};
-use calendar::easter::easter_sunday;
+use calendar::day::Kind;
 use calendar::hours::{DAY, hours_of};
 use calendar::rule::RuleCalendar;
-use civil::date::{Date, day_number};
+use civil::date::Date;
 use civil::month::Month;
 use civil::weekday::Weekday;
+use std::cmp::Ordering;
+use std::fmt::Display;
 use std::io;
 use std::io::Write;
+use std::ops::Range;
 
-const MONTHS: [Month; 12] = [
-    Month::January,
-    Month::February,
-    Month::March,
-    Month::April,
-    Month::May,
-    Month::June,
-    Month::July,
-    Month::August,
-    Month::September,
-    Month::October,
-    Month::November,
-    Month::December,
-];
-
-/// The days of a year.
-#[derive(Clone, Copy)]
-struct Year {
-    first: u32,
-    end: u32,
-}
-
-impl Year {
-    fn of(year: u32) -> Year {
-        Year {
-            first: first_of(year, Month::January),
-            end: first_of(year.saturating_add(1), Month::January),
-        }
-    }
-}
-
-fn first_of(year: u32, month: Month) -> u32 {
-    match u32::try_from(day_number(year, month, 1)) {
-        Ok(day) => day,
-        Err(_) => u32::MAX,
-    }
-}
-
-fn print_dated<W: Write>(out: &mut W, day: u32, text: &str) -> io::Result<()> {
+fn print_dated<W: Write, T: Display + Drop>(out: &mut W, day: u32, text: T) -> io::Result<()> {
     let date = Date::of(day);
-    let weekday = Weekday::of(day).name();
+    let weekday = Weekday::of(day);
     writeln!(out, "  {date} {weekday:<9}  {text}")
 }
 
 fn print_closings<W: Write>(out: &mut W, year: Year) -> io::Result<()> {
     writeln!(out, "Closed on weekdays")?;
-    for day in year.first..year.end {
-        if let Some(closing) = Closing::on(day) {
-            if !Weekday::of(day).is_weekend() {
-                print_dated(out, day, closing.name())?;
-            }
+    for day in year.days() {
+        if let Some(closing) = Closing::on(day)
+            && !Weekday::of(day).is_weekend()
+        {
+            print_dated(out, day, closing)?;
         }
     }
     Ok(())
 }
 
-fn print_half_day<W: Write>(out: &mut W, day: u32, known: Day, close: u64) -> io::Result<()> {
+/// A half day, with the Irish offset and the moment of its close.
+struct HalfDay {
+    day: u32,
+    offset: u32,
+    close: u64,
+}
+
+impl HalfDay {
+    /// The half day that the day is, if it is one.
+    fn on(day: u32) -> Option<HalfDay> {
+        let known = RuleCalendar
+            .ask(day)
+            .filter(|known| known.kind == Kind::Half)?;
+        let hours = hours_of(&RuleCalendar, day)?;
+        Some(HalfDay {
+            day,
+            offset: known.offset,
+            close: hours.close,
+        })
+    }
+}
+
+fn print_half_day<W: Write>(out: &mut W, half_day: HalfDay) -> io::Result<()> {
+    let HalfDay { day, offset, close } = half_day;
     let date = Date::of(day);
-    let weekday = Weekday::of(day).name();
+    let weekday = Weekday::of(day);
     let utc = close % DAY / 60;
-    let irish = (close % DAY).saturating_add(known.offset as u64) / 60;
+    let irish = (close % DAY + offset as u64) / 60;
     writeln!(
         out,
         "  {date} {weekday:<9}  closes {:02}:{:02} Irish time, {:02}:{:02} UTC",
@@ -85,19 +73,13 @@ fn print_half_day<W: Write>(out: &mut W, day: u32, known: Day, close: u64) -> io
 
 fn print_half_days<W: Write>(out: &mut W, year: Year) -> io::Result<()> {
     writeln!(out, "Half days")?;
-    let mut any = false;
-    for day in year.first..year.end {
-        if let Some(known) = RuleCalendar.ask(day) {
-            if known.kind == Kind::Half {
-                if let Some(hours) = hours_of(&RuleCalendar, day) {
-                    any = true;
-                    print_half_day(out, day, known, hours.close)?;
-                }
-            }
-        }
-    }
-    if !any {
-        writeln!(out, "  none")?;
+    let mut half_days = year.days().filter_map(HalfDay::on);
+    let Some(first) = half_days.next() else {
+        return writeln!(out, "  none");
+    };
+    print_half_day(out, first)?;
+    for half_day in half_days {
+        print_half_day(out, half_day)?;
     }
     Ok(())
 }
@@ -105,12 +87,12 @@ fn print_half_days<W: Write>(out: &mut W, year: Year) -> io::Result<()> {
 fn print_clock_changes<W: Write>(out: &mut W, year: Year) -> io::Result<()> {
     writeln!(out, "Irish clocks change")?;
     let mut before = 0;
-    for day in year.first..year.end {
+    for day in year.days() {
         if let Some(known) = RuleCalendar.ask(day) {
-            if known.offset > before {
-                print_dated(out, day, "forward, to one hour ahead of UTC")?;
-            } else if known.offset < before {
-                print_dated(out, day, "back, to UTC")?;
+            match known.offset.cmp(&before) {
+                Ordering::Greater => print_dated(out, day, "forward, to one hour ahead of UTC")?,
+                Ordering::Less => print_dated(out, day, "back, to UTC")?,
+                Ordering::Equal => {}
             }
             before = known.offset;
         }
@@ -118,55 +100,40 @@ fn print_clock_changes<W: Write>(out: &mut W, year: Year) -> io::Result<()> {
     Ok(())
 }
 
-fn print_tally<W: Write>(out: &mut W, name: &str, tally: Tally) -> io::Result<()> {
-    let full = tally.full;
-    let half = tally.half;
+fn tally(days: Range<u32>) -> Tally {
+    tally_of(
+        &RuleCalendar,
+        days.start,
+        days.end.saturating_sub(days.start),
+    )
+}
+
+fn print_tally<W: Write, T: Display + Drop>(out: &mut W, name: T, tally: Tally) -> io::Result<()> {
+    let Tally { full, half } = tally;
     let all = full.saturating_add(half);
     writeln!(out, "  {name:<9}  {full:>5} {half:>5} {all:>5}")
 }
 
-fn print_tallies<W: Write>(out: &mut W, year: u32) -> io::Result<()> {
+fn print_tallies<W: Write>(out: &mut W, year: Year) -> io::Result<()> {
     writeln!(out, "Trading days  full  half   all")?;
-    let whole = Year::of(year);
-    for month in MONTHS {
-        let first = first_of(year, month);
-        let end = if month == Month::December {
-            whole.end
-        } else {
-            first_of(year, month.following())
-        };
-        print_tally(
-            out,
-            month.name(),
-            tally_of(&RuleCalendar, first, end.saturating_sub(first)),
-        )?;
+    for month in Month::ALL {
+        print_tally(out, month, tally(year.days_of(month)))?;
     }
-    print_tally(
-        out,
-        "Year",
-        tally_of(
-            &RuleCalendar,
-            whole.first,
-            whole.end.saturating_sub(whole.first),
-        ),
-    )
+    print_tally(out, "Year", tally(year.days()))
 }
 
 /// Prints the page of a year.
-pub fn print_page<W: Write>(out: &mut W, year: u32) -> io::Result<()> {
-    let days = Year::of(year);
+pub fn print_page<W: Write>(out: &mut W, year: Year) -> io::Result<()> {
     writeln!(out, "Trading calendar {year}")?;
     writeln!(out)?;
-    if let Ok(easter) = u32::try_from(easter_sunday(year)) {
-        let date = Date::of(easter);
-        writeln!(out, "Easter Sunday {date}")?;
-        writeln!(out)?;
-    }
-    print_closings(out, days)?;
+    let easter = Date::of(year.easter());
+    writeln!(out, "Easter Sunday {easter}")?;
     writeln!(out)?;
-    print_half_days(out, days)?;
+    print_closings(out, year)?;
     writeln!(out)?;
-    print_clock_changes(out, days)?;
+    print_half_days(out, year)?;
+    writeln!(out)?;
+    print_clock_changes(out, year)?;
     writeln!(out)?;
     print_tallies(out, year)
 }

@@ -1,43 +1,41 @@
-use Rattle.std.proofs.Common.{◌≡◌, ℕ, suc, ◌+◌, ◌-◌, ◌<◌, ◌≤◌, None, Option, sym, refl, ap, ◌∙◌, arith}
-use Rattle.calendar.specs.Meaning.{Meaning}
-use Rattle.calendar.specs.Steps.{met}
-use Rattle.calendar.specs.Trading.{nearest, days_along}
-use Rattle.calendar.specs.declared.neighbour.Way.{Way}
-use Rattle.calendar.specs.declared.neighbour.Way.TheVariants.{Onward, Back}
-use Rattle.calendar.specs.declared.neighbour.Step.{Step}
-use Rattle.calendar.specs.declared.neighbour.Step.TheVariants.{Trading, Closed, Unknown}
+use Rattle.std.proofs.Common.{None, Some, sym, ◌∙◌, arith}
+use Rattle.calendar.proofs.Stepping.{stepped, through, unknown_day, known_day, both_ways}
 use Rattle.calendar.proofs.neighbour.neighbour.Goals as goal
 
--- a step taken while days are left to try
-on : (m : Meaning) (way : Way) (reach tried at : ℕ) (all : Option ℕ) (r : Step) → tried < reach
-    → all ≡ nearest m (days_along way (reach - tried) at)
-    → ((n : ℕ) → nearest m (days_along way (suc n) at) ≡ met m way n r)
-    → all ≡ met m way (reach - (tried + 1)) r
-on m way reach tried at all r h inv step =
-    let one : reach - tried ≡ suc (reach - (tried + 1)) = omega arith in
-    inv ∙ ap (λ (n : ℕ). nearest m (days_along way n at)) one ∙ step (reach - (tried + 1))
+pub returns-in_err-at : goal.returns-in_err-at
+returns-in_err-at g c =
+    let m = g.C.Calendar.meaning c.args.calendar.now in
+    let both = both_ways m (g.met.C.Calendar.lawful c.args.calendar.now).fits (goal.B-post g c.args.beside) c.args.reach c.args.day c.from_residual.result (λ step gives.
+    c.from_residual.ensures
+    ∙ sym (stepped m step c.args.reach c.loop-tried._tried c.loop-tried.at _ None (omega arith) (c.loop-tried.invariant step gives) (gives _ _ c.in_err-at.ensures))) in
+    record { onward = both.0; back = both.1 }
 
-none_left : (m : Meaning) (way : Way) (at : ℕ) → nearest m (days_along way 0 at) ≡ None
-none_left m Onward at = refl
-none_left m Back at = refl
+pub returns-in_err-ask : goal.returns-in_err-ask
+returns-in_err-ask g c =
+    let m = g.C.Calendar.meaning c.args.calendar.now in
+    let both = both_ways m (g.met.C.Calendar.lawful c.args.calendar.now).fits (goal.B-post g c.args.beside) c.args.reach c.args.day c.from_residual-in_err-ask.result (λ step gives.
+    c.from_residual-in_err-ask.ensures
+    ∙ sym (stepped m step c.args.reach c.loop-tried._tried c.loop-tried.at _ (Some c.in_ok-at.at) (omega arith) (c.loop-tried.invariant step gives) (gives _ _ c.in_ok-at.ensures)
+    ∙ unknown_day m c.in_ok-at.at _ c.in_err-ask.ensures)) in
+    record { onward = both.0; back = both.1 }
 
-through : (m : Meaning) (way : Way) (reach tried at : ℕ) → reach ≤ tried → nearest m (days_along way (reach - tried) at) ≡ None
-through m way reach tried at h =
-    let none : reach - tried ≡ 0 = omega arith in
-    ap (λ (n : ℕ). nearest m (days_along way n at)) none ∙ none_left m way at
-
-pub returns-in-Trading : goal.returns-in-Trading
-returns-in-Trading g c =
-    sym (on (g.C.Calendar.meaning c.args.calendar.now) c.args.way c.args.reach c.loop-tried.tried c.loop-tried.at _ (Trading c.in-Trading.found) (omega arith) c.loop-tried.invariant c.in-Trading.ensures)
-
-pub returns-in-Unknown : goal.returns-in-Unknown
-returns-in-Unknown g c =
-    sym (on (g.C.Calendar.meaning c.args.calendar.now) c.args.way c.args.reach c.loop-tried.tried c.loop-tried.at _ Unknown (omega arith) c.loop-tried.invariant c.in-Unknown.ensures)
+pub returns-then-trades : goal.returns-then-trades
+returns-then-trades g c =
+    let m = g.C.Calendar.meaning c.args.calendar.now in
+    let both = both_ways m (g.met.C.Calendar.lawful c.args.calendar.now).fits (goal.B-post g c.args.beside) c.args.reach c.args.day (Some c.in_ok-at.at) (λ step gives.
+    sym (stepped m step c.args.reach c.loop-tried._tried c.loop-tried.at _ (Some c.in_ok-at.at) (omega arith) (c.loop-tried.invariant step gives) (gives _ _ c.in_ok-at.ensures)
+    ∙ known_day m c.in_ok-at.at _ c.in_ok-ask.field-0 _ c.in_ok-ask.ensures c.if-trades.ensures)) in
+    record { onward = both.0; back = both.1 }
 
 pub loop-tried-preserved : goal.loop-tried-preserved
-loop-tried-preserved g c =
-    on (g.C.Calendar.meaning c.args.calendar.now) c.args.way c.args.reach c.loop-tried.tried c.loop-tried.at _ (Closed c.in-Closed.passed) (omega arith) c.loop-tried.invariant c.in-Closed.ensures
+loop-tried-preserved g c = λ step gives.
+    let m = g.C.Calendar.meaning c.args.calendar.now in
+    stepped m step c.args.reach c.loop-tried._tried c.loop-tried.at _ (Some c.in_ok-at.at) (omega arith) (c.loop-tried.invariant step gives) (gives _ _ c.in_ok-at.ensures)
+    ∙ known_day m c.in_ok-at.at _ c.in_ok-ask.field-0 _ c.in_ok-ask.ensures c.if-trades.ensures
 
 pub returns : goal.returns
 returns g c =
-    sym (c.loop-tried.invariant ∙ through (g.C.Calendar.meaning c.args.calendar.now) c.args.way c.args.reach c.loop-tried.tried c.loop-tried.at (omega arith))
+    let m = g.C.Calendar.meaning c.args.calendar.now in
+    let both = both_ways m (g.met.C.Calendar.lawful c.args.calendar.now).fits (goal.B-post g c.args.beside) c.args.reach c.args.day None (λ step gives.
+    sym (c.loop-tried.invariant step gives ∙ through m step c.args.reach c.loop-tried._tried c.loop-tried.at (omega arith))) in
+    record { onward = both.0; back = both.1 }

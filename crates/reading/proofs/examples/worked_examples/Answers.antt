@@ -4,7 +4,8 @@ use Rattle.reading.specs.Laws.{Laws}
 use Rattle.reading.specs.Line.{line_read}
 use Rattle.reading.specs.Request.{request_read}
 use Rattle.reading.specs.Words.{words_of}
-use Rattle.reading.proofs.Joined.{words_joined, words_solid}
+use Rattle.std.proofs.lemmas.List.Splits.{join_with_byte-slice_split}
+use Rattle.reading.proofs.Joined.{words_solid}
 use Rattle.reading.proofs.Spelling.{written_is_read, read_is_written}
 use Rattle.reading.proofs.examples.worked_examples.Goals as goal
 
@@ -13,10 +14,11 @@ unfolding words_of line_read request_read
 examples_hold = search rules
 
 laws_hold : Laws
+unfolding words_of
 laws_hold = record {
   written_is_read = written_is_read;
   read_is_written = read_is_written;
-  words_joined = words_joined;
+  words_joined = join_with_byte-slice_split 32;
   words_solid = words_solid;
 }
 

@@ -1,21 +1,15 @@
-use Rattle.std.proofs.Common.{◌≡◌, ℕ, ◌^◌, ◌<◌, List, length, Option, sym, subst, rules}
-use Rattle.report.specs.declared.report.Code.{Code}
-use Rattle.rulebook.specs.declared.record.Record.{Record}
-use Rattle.ledger.specs.declared.days.Days.{Days}
+use Rattle.std.proofs.Common.{◌≡◌, sym, subst, rules}
 use Rattle.ledger.specs.Days.{held_days, index_of}
-use Rattle.ledger.specs.Filed.{Filed, Finds}
+use Rattle.ledger.specs.Filed.{Finds}
 use Rattle.ledger.proofs.Filing.{finds}
 use Rattle.ledger.proofs.days.Days.index_of.Goals as goal
 
-answer_finds : (d : Days) (code : Code) (o : Option ℕ) → o ≡ index_of d code → (rs : List Record) → Filed (held_days d) rs → length rs < 2 ^ 64 → Finds rs code o
-answer_finds d code o is rs filed small = subst (Finds rs code) (sym is) (finds (held_days d) rs filed small code)
-
-pub returns : goal.returns
-returns c =
+pub returns-clause-finds : goal.returns-clause-finds
+returns-clause-finds c rs filed small =
     let is : c.place_of.result ≡ index_of c.args.self.now c.args.code = search rules in
-    record { value = is; finds = answer_finds c.args.self.now c.args.code c.place_of.result is }
+    subst (Finds rs c.args.code) (sym is) (finds (held_days c.args.self.now) rs filed small c.args.code)
 
-pub returns-in_err-find : goal.returns-in_err-find
-returns-in_err-find c =
+pub returns-in_err-find-clause-finds : goal.returns-in_err-find-clause-finds
+returns-in_err-find-clause-finds c rs filed small =
     let is : c.from_residual.result ≡ index_of c.args.self.now c.args.code = search rules in
-    record { value = is; finds = answer_finds c.args.self.now c.args.code c.from_residual.result is }
+    subst (Finds rs c.args.code) (sym is) (finds (held_days c.args.self.now) rs filed small c.args.code)

@@ -1,24 +1,9 @@
-use Rattle.std.proofs.Common.{◌∙◌}
-use Rattle.ledger.specs.SheetKeys.{prices_of}
+use Rattle.std.proofs.Common.{◌≡◌, ◌∙◌, rules}
+use Rattle.std.specs.Option.{option_map}
 use Rattle.ledger.proofs.Read.{high_is}
 use Rattle.ledger.proofs.sheet_keys.SheetKeys.high.Goals as goal
 
 pub returns : goal.returns
 returns c sheet place isin rs small stands mirrors placed =
-    c.price_of.ensures
-    ∙ high_is
-    c.args.day
-    c.args.security
-    sheet
-    place
-    isin
-    rs
-    placed
-    (prices_of c.args.self.now c.args.memory.now)
-    mirrors.prices_mirror
-    c.price_start-low.result
-    c.price_end-high.result
-    c.price_start-low.ensures
-    (c.price_end-high.ensures small)
-    c.last_between.result
-    (c.last_between.ensures stands.prices_stand)
+    let shown : c.map.result ≡ option_map (λ k. k.price) c.last.result = search rules in
+    shown ∙ high_is c.args.of.day c.args.of.security sheet place isin rs placed _ mirrors.prices_mirror _ _ c.stretch.ensures.low (c.stretch.ensures.high small) c.last.result (c.last.ensures stands.prices_stand)

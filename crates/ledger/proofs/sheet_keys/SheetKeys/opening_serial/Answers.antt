@@ -1,24 +1,9 @@
-use Rattle.std.proofs.Common.{◌∙◌}
-use Rattle.ledger.specs.SheetKeys.{executions_of}
+use Rattle.std.proofs.Common.{◌≡◌, ◌∙◌, rules}
+use Rattle.std.specs.Option.{option_map}
 use Rattle.ledger.proofs.Read.{opening_is}
 use Rattle.ledger.proofs.sheet_keys.SheetKeys.opening_serial.Goals as goal
 
 pub returns : goal.returns
 returns c sheet place isin rs small stands mirrors placed =
-    c.serial_of.ensures
-    ∙ opening_is
-    c.args.day
-    c.args.security
-    sheet
-    place
-    isin
-    rs
-    placed
-    (executions_of c.args.self.now c.args.memory.now)
-    mirrors.executions_mirror
-    c.execution_start-low.result
-    c.execution_end-high.result
-    c.execution_start-low.ensures
-    (c.execution_end-high.ensures small)
-    c.first_between.result
-    (c.first_between.ensures stands.executions_stand)
+    let shown : c.map.result ≡ option_map (λ k. k.serial) c.first.result = search rules in
+    shown ∙ opening_is c.args.of.day c.args.of.security sheet place isin rs placed _ mirrors.executions_mirror _ _ c.stretch.ensures.low (c.stretch.ensures.high small) c.first.result (c.first.ensures stands.executions_stand)
