@@ -52,6 +52,7 @@ impl Closing {
     }
 }
 
+// As civil's Month and Weekday print their names: an impl by a macro is not allowed.
 impl fmt::Display for Closing {
     ghost output = { λ c. Some (closing_name c) };
 

@@ -22,14 +22,13 @@ pub fn day_line<C: Calendar>(
     };
     let date = Date::of(day);
     let line = match hours_of(calendar, day) {
-        Some(hours) => {
-            let Hours {
+        Some(
+            Hours {
                 opening,
                 noon,
                 close,
-            } = hours;
-            format!(in heap; "{date} {kind} {offset} {opening} {noon} {close}")?
-        }
+            },
+        ) => format!(in heap; "{date} {kind} {offset} {opening} {noon} {close}")?,
         None => format!(in heap; "{date} {kind} {offset} - - -")?,
     };
     Ok(Some(line))

@@ -22,12 +22,12 @@ impl Tally {
         match kind {
             Kind::Closed => self,
             Kind::Half => Tally {
-                full: self.full,
                 half: self.half.saturating_add(1),
+                ..self
             },
             Kind::Full => Tally {
                 full: self.full.saturating_add(1),
-                half: self.half,
+                ..self
             },
         }
     }
@@ -47,7 +47,10 @@ fn kind_on<C: Calendar>(calendar: &C, first: u32, after: u32) -> Kind
 pub fn tally_of<C: Calendar>(calendar: &C, first: u32, days: u32) -> Tally
     ensures { result ≡ tallied (C.meaning calendar.now) first days }
 {
-    (0..days).fold(Tally { full: 0, half: 0 }, |tally, after| {
-        tally.with(kind_on(calendar, first, after))
-    })
+    // A `for` over numbers of days, which index nothing: `fold` would say the same in one expression, with a closure in it.
+    let mut tally = Tally { full: 0, half: 0 };
+    for after in 0..days {
+        tally = tally.with(kind_on(calendar, first, after));
+    }
+    tally
 }

@@ -1,22 +1,12 @@
 -- A search that goes on day by day finds the nearest trading day among the days that its steps reach.
-use Rattle.std.proofs.Common.{◌≡◌, ℕ, zero, suc, ◌+◌, ◌-◌, ◌^◌, ◌<◌, ◌≤◌, Bool, true, false, cond, ◌&&◌, ltb, List, [], ◌∷◌, Some, None, Option, sym, refl, ap, ◌∙◌, arith}
+use Rattle.std.proofs.Common.{◌≡◌, ℕ, zero, suc, ◌+◌, ◌-◌, ◌^◌, ◌<◌, ◌≤◌, Bool, true, false, cond, ◌&&◌, ltb, List, ◌∷◌, Some, None, Option, sym, refl, ap, ◌∙◌, arith}
 use Rattle.std.proofs.lemmas.Bool.Decides.{nat_tests}
 use Rattle.calendar.specs.declared.day.Day.{Day}
 use Rattle.calendar.specs.declared.day.Kind.{Kind}
 use Rattle.calendar.specs.declared.day.Kind.TheVariants.{Closed}
 use Rattle.calendar.specs.Meaning.{Meaning, asked, known, trades, trading}
-use Rattle.calendar.specs.Steps.{later, earlier, Gives}
-use Rattle.calendar.specs.Trading.{nearest, days_after, days_until}
-
--- the day that a step reached, if it reached one, and those that follow it
-abbrev pub then_from : (ℕ → List ℕ) → Option ℕ → List ℕ
-then_from days None = []
-then_from days (Some day) = day ∷ days day
-
--- the days that n steps reach from a day on; they end where a step reaches none
-abbrev pub days_by : (ℕ → Option ℕ) → ℕ → ℕ → List ℕ
-days_by step zero day = []
-days_by step (suc n) day = then_from (days_by step n) (step day)
+use Rattle.calendar.specs.Steps.{later, earlier}
+use Rattle.calendar.specs.Trading.{nearest, days_after, days_until, then_from, days_by}
 
 -- one step while days are left to try
 pub stepped : (m : Meaning) (step : ℕ → Option ℕ) (reach tried at : ℕ) (all r : Option ℕ) → tried < reach
@@ -76,9 +66,3 @@ pub back : (n day : ℕ) → days_by earlier n day ≡ days_until n day
 back zero day = refl
 back (suc n) zero = refl
 back (suc n) (suc day) = ap (λ (days : List ℕ). day ∷ days) (back n day)
-
--- what is found by steps, whatever they are, is found onward and back
-pub both_ways : (m : Meaning) → m.last < 2 ^ 32 → (given : ℕ → Option ℕ → Type 0) (reach day : ℕ) (r : Option ℕ)
-    → ((step : ℕ → Option ℕ) → Gives given step → r ≡ nearest m (days_by step reach day))
-    → (Gives given later → r ≡ nearest m (days_after reach day)) × (Gives given earlier → r ≡ nearest m (days_until reach day))
-both_ways m fits given reach day r found = (λ gives. found later gives ∙ onward m fits reach day, λ gives. found earlier gives ∙ ap (nearest m) (back reach day))

@@ -21,6 +21,16 @@ days_until zero day = []
 days_until (suc n) zero = []
 days_until (suc n) (suc day) = day ∷ days_until n day
 
+-- the day that a step reached, if it reached one, and those that follow it
+abbrev pub then_from : (ℕ → List ℕ) → Option ℕ → List ℕ
+then_from days None = []
+then_from days (Some day) = day ∷ days day
+
+-- the days that n steps reach from a day on; they end where a step reaches none
+abbrev pub days_by : (ℕ → Option ℕ) → ℕ → ℕ → List ℕ
+days_by step zero day = []
+days_by step (suc n) day = then_from (days_by step n) (step day)
+
 -- a neighbour is looked for among fourteen days
 abbrev pub next_trading_day : Meaning → ℕ → Option ℕ
 next_trading_day m day = nearest m (days_after 14 day)

@@ -1,5 +1,5 @@
 //! Reading a list, and answering from it.
-ghost use Rattle.std.specs.Prelude.{◌≡◌, true, false, [], is_ok};
+ghost use Rattle.std.specs.Prelude.{◌≡◌, [], OnOk, OnErr};
 ghost use Rattle.std.specs.Result.{result_map_both};
 ghost use Rattle.calendar.specs.Listed.{may_stand, rise_within, reading, listing, listed_day, by_list};
 ghost use Rattle.calendar.specs.Lawful.{list_lawful};
@@ -10,6 +10,7 @@ use super::listed::ListedCalendar;
 use super::rule::{FIRST_DAY, LAST_DAY, SUMMER};
 use refusal::Refusal;
 
+// First, last and days are three parameters: the struct that would hold them is `ListedCalendar` itself, whose days rise.
 /// May the day stand in a list of days from `first` to `last`?
 fn may_stand(first: u64, last: u32, listed: &ListedDay) -> bool
     ensures { result ≡ may_stand first last listed.now }
@@ -48,6 +49,7 @@ impl<'a> ListedCalendar<'a> {
         }
     }
 
+    // For a caller that reads list after list: there is a calendar before the first.
     /// A calendar that knows no day until it reads a list.
     pub fn new() -> ListedCalendar<'a>
         ensures { by_list result.first result.last result.days.now ≡ by_list 1 0 [] }
@@ -72,8 +74,8 @@ impl<'a> ListedCalendar<'a> {
     /// Reads a list of trading days from `first` to `last`, in place of what it had read before.
     pub fn read(&mut self, first: u32, last: u32, days: &'a [ListedDay]) -> Result<(), Refusal>
         ensures answer { result ≡ reading first last days.now }
-        ensures made { is_ok result ≡ true → by_list self.new.first self.new.last self.new.days.now ≡ by_list first last days.now }
-        ensures same { is_ok result ≡ false → self.new ≡ self.old }
+        ensures made { OnOk result (by_list self.new.first self.new.last self.new.days.now ≡ by_list first last days.now) }
+        ensures same { OnErr result (self.new ≡ self.old) }
     {
         *self = ListedCalendar::of(first, last, days)?;
         Ok(())

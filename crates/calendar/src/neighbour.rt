@@ -1,7 +1,7 @@
 //! The trading days beside a day, for every calendar.
-ghost use Rattle.std.specs.Prelude.{◌≡◌};
+ghost use Rattle.std.specs.Prelude.{◌≡◌, ℕ, Option};
 ghost use Rattle.calendar.specs.Meaning.{trading};
-ghost use Rattle.calendar.specs.Trading.{nearest, days_after, days_until, next_trading_day, previous_trading_day, Answers, NextWithin, PreviousWithin};
+ghost use Rattle.calendar.specs.Trading.{nearest, days_by, next_trading_day, previous_trading_day, Answers, NextWithin, PreviousWithin};
 ghost use Rattle.calendar.specs.Steps.{Gives, later, earlier};
 
 use super::calendar::Calendar;
@@ -38,8 +38,7 @@ fn neighbour<C: Calendar, B: Fn(u32) -> Option<u32>>(
     beside: B,
 ) -> Option<u32>
     requires { B.IsAlwaysCallable beside }
-    ensures onward { Gives (B.post beside) later → result ≡ nearest (C.meaning calendar.now) (days_after reach day) }
-    ensures back { Gives (B.post beside) earlier → result ≡ nearest (C.meaning calendar.now) (days_until reach day) }
+    ensures { (step : ℕ → Option ℕ) → Gives (B.post beside) step → result ≡ nearest (C.meaning calendar.now) (days_by step reach day) }
 {
     let mut at = day;
     for _tried in 0..reach {
@@ -52,7 +51,6 @@ fn neighbour<C: Calendar, B: Fn(u32) -> Option<u32>>(
 }
 
 /// The nearest trading day after `day`, within 14 days and with all days up to it known.
-#[tactic(auto, using(crate::proofs::Nearest::next_within))]
 pub fn next_trading_day<C: Calendar>(calendar: &C, day: u32) -> Option<u32>
     ensures value { result ≡ next_trading_day (C.meaning calendar.now) day }
     ensures nearest { Answers (NextWithin (C.meaning calendar.now) 14 day) result }
@@ -61,7 +59,6 @@ pub fn next_trading_day<C: Calendar>(calendar: &C, day: u32) -> Option<u32>
 }
 
 /// The nearest trading day before `day`, within 14 days and with all days down to it known.
-#[tactic(auto, using(crate::proofs::Nearest::previous_within))]
 pub fn previous_trading_day<C: Calendar>(calendar: &C, day: u32) -> Option<u32>
     ensures value { result ≡ previous_trading_day (C.meaning calendar.now) day }
     ensures nearest { Answers (PreviousWithin (C.meaning calendar.now) 14 day) result }

@@ -24,6 +24,7 @@ pub const SUMMER: u32 = 3_600;
 #[derive(Clone, Copy)]
 pub struct RuleCalendar;
 
+// Beside almanac's `Closing`, which names the closings: the rule asks for no name, and closes early and on weekends too.
 /// Is the market closed each year on this date?
 fn is_yearly_closing(date: Date) -> bool
     ensures { result ≡ yearly_closing date }

@@ -1,6 +1,7 @@
 //! The calendar from a list.
+use super::rule::known;
 use calendar::calendar::Calendar;
-use calendar::day::{Day, Kind, ListedDay};
+use calendar::day::{Kind, ListedDay};
 use calendar::listed::ListedCalendar;
 use calendar::neighbour::{next_trading_day, previous_trading_day};
 use refusal::Refusal;
@@ -22,10 +23,6 @@ const WEEK: [ListedDay; 3] = [
         offset: 0,
     },
 ];
-
-fn known(kind: Kind, offset: u32) -> Option<Day> {
-    Some(Day { kind, offset })
-}
 
 fn reading(first: u32, last: u32, days: &[ListedDay]) -> Result<(), Refusal> {
     let mut calendar = ListedCalendar::new();

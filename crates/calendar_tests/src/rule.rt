@@ -18,7 +18,7 @@ fn ask(year: u32, month: Month, day: u32) -> Result<Option<Day>, TryFromIntError
     Ok(RuleCalendar.ask(on(year, month, day)?))
 }
 
-fn known(kind: Kind, offset: u32) -> Option<Day> {
+pub(crate) fn known(kind: Kind, offset: u32) -> Option<Day> {
     Some(Day { kind, offset })
 }
 

@@ -2,3 +2,4 @@ pub mod Counting
 pub mod Sundays
 pub mod Years
 pub mod Months
+mod TwoDigits

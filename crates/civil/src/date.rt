@@ -50,6 +50,7 @@ fn days_before(year: u32, month: Month) -> u32
     }
 }
 
+// Three numbers and no `Date`: a day past the month's end, which is counted here, is in no date.
 /// The day of a date, counted from 1 January 1970; past the month's end it counts on into the next month.
 /// A year before 1970 is taken for 1970, and day 0 for day 1.
 pub fn day_number(year: u32, month: Month, day: u32) -> u64

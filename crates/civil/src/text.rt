@@ -14,14 +14,7 @@ impl fmt::Display for Date {
     fn fmt<W: fmt::Write>(&self, f: &mut fmt::Formatter<W>) -> fmt::Result {
         let Date { year, month, day } = *self;
         let month = month.number();
-        write!(
-            f,
-            "{year}-{}{}-{}{}",
-            month / 10,
-            month % 10,
-            day / 10,
-            day % 10
-        )
+        write!(f, "{year}-{month:02}-{day:02}")
     }
 }
 
@@ -47,6 +40,7 @@ impl Month {
     }
 }
 
+// Month, Weekday and almanac's Closing each print their name in an impl of their own: an impl by a macro is not allowed.
 impl fmt::Display for Month {
     ghost output = { λ m. Some (month_name m) };
 

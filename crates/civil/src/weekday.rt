@@ -1,5 +1,5 @@
 //! The days of the week.
-ghost use Rattle.std.specs.Prelude.{◌≡◌, ◌+◌, ◌-◌, ◌*◌, ◌%◌, ◌<◌, ◌≤◌};
+ghost use Rattle.std.specs.Prelude.{◌≡◌, ◌+◌, ◌-◌, ◌*◌, ◌%◌, ◌^◌, ◌<◌, ◌≤◌};
 ghost use Rattle.civil.specs.Weekdays.{weekday_of, is_weekend, last_sunday};
 
 use super::date::{day_number, length_of};
@@ -45,7 +45,7 @@ impl Weekday {
 
 /// How many days after a Sunday the day is: day 3 was a Sunday.
 fn since_sunday(day: u64) -> u64
-    requires { day < 18446744073709551611 }
+    requires { day + 4 < 2 ^ 64 }
     ensures { result ≡ (day + 4) % 7 }
 {
     (day + 4) % 7

@@ -51,10 +51,10 @@ pub record Facts (m : Meaning) (day : ℕ) (b : Bool) (p n : Option ℕ) (o : Op
 
 pub facts : (m : Meaning) (day : ℕ) (b : Bool) (p n : Option ℕ) (o : Opened) → cond b (with_neighbours m day p n) (Err NoTradingDay) ≡ Ok o → Facts m day b p n o
 facts m day true (Some p) (Some n) o e = record { trades = refl; previous = p; next = n; previous_is = refl; next_is = refl; is = cc }
-facts m day true (Some p) None o e = absurd (grind arith)
-facts m day true None (Some n) o e = absurd (grind arith)
-facts m day true None None o e = absurd (grind arith)
-facts m day false p n o e = absurd (grind arith)
+facts m day true (Some p) None o e = cc
+facts m day true None (Some n) o e = cc
+facts m day true None None o e = cc
+facts m day false p n o e = cc
 
 -- an execution in an opened day, or in the trading day before it, is timely
 abbrev pub InTime : Opened → ℕ → Type 0
@@ -75,8 +75,8 @@ chosen : (x y : Deadlines) (execution : ℕ) (a b c : Bool) → (b ≡ true → 
     → Timely (unwrap_or (cond a (cond b (Some x) (cond c (Some y) None)) None) x) execution
 chosen x y execution true true c p q e = p refl
 chosen x y execution true false true p q e = q refl
-chosen x y execution true false false p q e = absurd (grind arith)
-chosen x y execution false b c p q e = absurd (grind arith)
+chosen x y execution true false false p q e = cc
+chosen x y execution false b c p q e = cc
 
 deadlines_timely : (m : Meaning) (day clock execution : ℕ) (o : Opened) → Lawful m → opened m day ≡ Ok o → is_some (deadlines_for o clock execution) ≡ true
     → Timely (unwrap_or (deadlines_for o clock execution) o.today) execution
@@ -91,10 +91,10 @@ allowed {X} g h i j x y e = by_cases g.there h.there i.there j.there e
   where
     by_cases : (a b c d : Bool) → unless (cond a (Some g.refusal) (cond b (Some h.refusal) (cond c (Some i.refusal) (cond d (Some j.refusal) None)))) x ≡ Ok y → (d ≡ false) × (x ≡ y)
     by_cases false false false false e = (refl, cc)
-    by_cases false false false true e = absurd (grind arith)
-    by_cases false false true d e = absurd (grind arith)
-    by_cases false true c d e = absurd (grind arith)
-    by_cases true b c d e = absurd (grind arith)
+    by_cases false false false true e = cc
+    by_cases false false true d e = cc
+    by_cases false true c d e = cc
+    by_cases true b c d e = cc
 
 in_opened : (m : Meaning) (tier : Question → Tier) (clock : ℕ) (o : Opened) (t u : Trade) (p q : Publication) → Lawful m → Rises tier
     → opened m (day_of clock) ≡ Ok o → AlikeButSize t u → turnover t ≤ turnover u
@@ -114,7 +114,7 @@ if_day_opened : (m : Meaning) (tier : Question → Tier) (clock : ℕ) (r : Resu
     → opened m (day_of clock) ≡ r → AlikeButSize t u → turnover t ≤ turnover u
     → if_opened tier clock t r ≡ Ok p → if_opened tier clock u r ≡ Ok q → p.moment ≤ q.moment
 if_day_opened m tier clock (Ok o) t u p q law rises is alike h e f = in_opened m tier clock o t u p q law rises is alike h e f
-if_day_opened m tier clock (Err r) t u p q law rises is alike h e f = absurd (grind arith)
+if_day_opened m tier clock (Err r) t u p q law rises is alike h e f = cc
 
 pub larger_never_earlier : (m : Meaning) (tier : Question → Tier) → Lawful m → Rises tier → LargerNeverEarlier m tier
 larger_never_earlier m tier law rises clock t u p q alike h e f =

@@ -103,12 +103,11 @@ fn row_for(daily: u64) -> Row
     first_serving(&EQUITIES, daily)
 }
 
-// Two amounts in one row: a `Row` has three.
+// Each amount is compared under its name: one chain over a list of steps would put a tier beside each amount in every row.
 /// The tier of an ETF.
 fn etf_tier(turnover: u64) -> Tier
     ensures { result ≡ highest etfs turnover }
 {
-    // An ETF has two amounts, and a `Row` has three.
     let euro = turnover / UNITS;
     if euro >= 50_000_000 {
         Tier::Three

@@ -37,7 +37,7 @@ impl Flat {
         if !are_in_range(&[first, second, third, fourth]) {
             return Err(Refusal::AmountOutOfRange);
         }
-        // Three comparisons: what `is_sorted` says of four amounts is not found without a lemma for lists of four.
+        // Compared by name, first to last.
         if first > second || second > third || third > fourth {
             return Err(Refusal::AmountsFall);
         }
@@ -56,7 +56,7 @@ impl Schedule for Flat {
     ghost rises = { λ s q r alike h. highest_rises (flat_steps s.first s.second s.third s.fourth) q.turnover r.turnover h };
 
     fn tier_of(&self, question: Question) -> Tier {
-        // Four amounts and four tiers, where a `Row` has three and a last tier of its own: one chain for both would read a list of steps.
+        // By name, as in `Row::tier`: a list of steps would put a tier beside each of the four amounts.
         let euro = question.turnover / UNITS;
         if euro < self.first {
             Tier::Zero

@@ -1,7 +1,8 @@
 //! A trade judged at the clock.
-ghost use Rattle.std.specs.Prelude.{◌≡◌, [], ◌∷◌};
+ghost use Rattle.std.specs.Prelude.{◌≡◌, ◌*◌, [], ◌∷◌};
 ghost use Rattle.refusal.specs.Grounds.{first_ground, unless};
-ghost use Rattle.deferral.specs.Judged.{is_size, size_ground, turnover_ground, turnover as trade_turnover, trade_tier, judged_in, judged, LargerNeverEarlier};
+ghost use Rattle.deferral.specs.Judged.{is_size, size_ground, turnover_ground, judged_in, judged, LargerNeverEarlier};
+ghost use Rattle.deferral.specs.Publication.{tier_if};
 
 use super::opened::{Opened, open_clock_day};
 use super::publication::publication_moment;
@@ -25,9 +26,9 @@ pub fn is_size(number: u64) -> bool
     (1..=LARGEST_SIZE).contains(&number)
 }
 
-/// Refuses a price and a quantity where one of them is not allowed, then where their turnover is too large.
-pub fn check_sizes(price: u64, quantity: u64) -> Result<(), Refusal>
-    ensures { result ≡ unless (first_ground (size_ground price quantity ∷ turnover_ground price quantity ∷ [])) tt }
+/// The turnover of a price and a quantity: refused where one of them is not allowed, then where it is too large.
+fn turnover(price: u64, quantity: u64) -> Result<u64, Refusal>
+    ensures { result ≡ unless (first_ground (size_ground price quantity ∷ turnover_ground price quantity ∷ [])) (price * quantity) }
 {
     if !is_size(price) || !is_size(quantity) {
         return Err(Refusal::PriceOrQuantity);
@@ -36,25 +37,28 @@ pub fn check_sizes(price: u64, quantity: u64) -> Result<(), Refusal>
         .checked_mul(quantity)
         .ok_or(Refusal::TurnoverTooLarge)?;
     if turnover <= LARGEST_TURNOVER {
-        Ok(())
+        Ok(turnover)
     } else {
         Err(Refusal::TurnoverTooLarge)
     }
 }
 
-/// The trade's tier: that of the schedule where its publication may be deferred.
-fn tier_for<S: Schedule>(schedule: &S, trade: &Trade, turnover: u64) -> Tier
-    requires { turnover ≡ trade_turnover trade.now }
-    ensures { result ≡ trade_tier (S.tier schedule.now) trade.now }
+/// Refuses a price and a quantity where one of them is not allowed, then where their turnover is too large.
+pub fn check_sizes(price: u64, quantity: u64) -> Result<(), Refusal>
+    ensures { result ≡ unless (first_ground (size_ground price quantity ∷ turnover_ground price quantity ∷ [])) tt }
 {
-    if !trade.deferrable {
+    turnover(price, quantity)?;
+    Ok(())
+}
+
+/// A trade's tier: that of the schedule where its publication may be deferred.
+fn tier_for<S: Schedule>(schedule: &S, deferrable: bool, question: Question) -> Tier
+    ensures { result ≡ tier_if deferrable (S.tier schedule.now question) }
+{
+    if !deferrable {
         return Tier::Zero;
     }
-    schedule.tier_of(Question {
-        class: trade.class,
-        daily: trade.daily,
-        turnover,
-    })
+    schedule.tier_of(question)
 }
 
 impl Opened {
@@ -71,11 +75,16 @@ impl Opened {
         if !self.is_open_at(clock) {
             return Err(Refusal::MarketClosed);
         }
-        check_sizes(trade.price, trade.quantity)?;
+        let turnover = turnover(trade.price, trade.quantity)?;
         let deadlines = self
             .deadlines_for(clock, trade.execution)
             .ok_or(Refusal::ExecutionMoment)?;
-        let tier = tier_for(schedule, trade, trade.price.saturating_mul(trade.quantity));
+        let question = Question {
+            class: trade.class,
+            daily: trade.daily,
+            turnover,
+        };
+        let tier = tier_for(schedule, trade.deferrable, question);
         let moment = publication_moment(&deadlines, clock, trade.execution, tier);
         Ok(Publication { tier, moment })
     }

@@ -1,5 +1,5 @@
 //! A trading day that is opened, with its neighbours.
-ghost use Rattle.std.specs.Prelude.{◌≡◌, cond, Some, None};
+ghost use Rattle.std.specs.Prelude.{◌≡◌, Some, None, if◌then◌else◌};
 ghost use Rattle.std.specs.Option.{option_map};
 ghost use Rattle.calendar.specs.Meaning.{trading};
 ghost use Rattle.calendar.specs.Trading.{next_trading_day, previous_trading_day};
@@ -38,21 +38,21 @@ struct TradingDay {
 
 /// The day with its hours, where it is a known trading day.
 fn trading_day<C: Calendar>(calendar: &C, number: u32) -> Option<TradingDay>
-    ensures { result ≡ cond (trading (C.meaning calendar.now) number) (Some (timed (C.meaning calendar.now) number)) None }
+    ensures { result ≡ if trading (C.meaning calendar.now) number then Some (timed (C.meaning calendar.now) number) else None }
 {
     let hours = hours_of(calendar, number)?;
     Some(TradingDay { number, hours })
 }
 
 /// The trading day before, with its hours.
-fn day_before<C: Calendar>(calendar: &C, day: u32) -> Option<TradingDay>
+fn trading_day_before<C: Calendar>(calendar: &C, day: u32) -> Option<TradingDay>
     ensures { result ≡ option_map (timed (C.meaning calendar.now)) (previous_trading_day (C.meaning calendar.now) day) }
 {
     trading_day(calendar, previous_trading_day(calendar, day)?)
 }
 
 /// The trading day after, with its hours.
-fn day_after<C: Calendar>(calendar: &C, day: u32) -> Option<TradingDay>
+fn trading_day_after<C: Calendar>(calendar: &C, day: u32) -> Option<TradingDay>
     ensures { result ≡ option_map (timed (C.meaning calendar.now)) (next_trading_day (C.meaning calendar.now) day) }
 {
     trading_day(calendar, next_trading_day(calendar, day)?)
@@ -83,8 +83,8 @@ pub fn open_day<C: Calendar>(calendar: &C, day: u32) -> Result<Opened, Refusal>
     ensures { result ≡ opened (C.meaning calendar.now) day }
 {
     let today = trading_day(calendar, day).ok_or(Refusal::NoTradingDay)?;
-    let before = day_before(calendar, day).ok_or(Refusal::NoNeighbour)?;
-    let after = day_after(calendar, day).ok_or(Refusal::NoNeighbour)?;
+    let before = trading_day_before(calendar, day).ok_or(Refusal::NoNeighbour)?;
+    let after = trading_day_after(calendar, day).ok_or(Refusal::NoNeighbour)?;
     Ok(noted(today, before, after))
 }
 
@@ -101,7 +101,7 @@ impl Opened {
     pub fn is_open_at(&self, clock: u64) -> bool
         ensures { result ≡ open_at self.now clock }
     {
-        self.hours.opening <= clock && clock < self.hours.close
+        (self.hours.opening..self.hours.close).contains(&clock)
     }
 
     /// The deadlines of an execution: none where it is after the clock, or neither in this day nor in the trading day before it.

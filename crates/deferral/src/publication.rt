@@ -9,7 +9,7 @@ const ONE_HOUR: u64 = 3_600;
 
 const TWO_HOURS: u64 = 7_200;
 
-// Clock and execution moment are two parameters: the deadlines are found from both, the moment is told from both, and no value holds them.
+// Clock and execution moment are two parameters: only this function and `deadlines_for` take both.
 /// The later of the tier's moment and the clock. A moment past the largest number there is becomes that number.
 pub fn publication_moment(deadlines: &Deadlines, clock: u64, execution: u64, tier: Tier) -> u64
     ensures { result ≡ min (publication deadlines.now clock execution tier) (2 ^ 64 - 1) }

@@ -27,6 +27,7 @@ impl Row {
     pub(crate) fn tier(&self, turnover: u64) -> Tier
         ensures { result ≡ highest (steps_of self.now) turnover }
     {
+        // By name, as in `etf_tier`: a list of steps would put a tier beside each amount in every row.
         let euro = turnover / UNITS;
         if euro >= self.third {
             self.top

@@ -33,10 +33,9 @@ fn moment(clock: u64, trade: Trade) -> Result<u64, Refusal> {
     judge_trade(&RuleCalendar, &AnnexTwo, clock, &trade).map(|publication| publication.moment)
 }
 
-/// The number of the ground, where there is one.
-fn ground(clock: u64, trade: Trade) -> Option<u8> {
-    let refusal = moment(clock, trade).err()?;
-    Some(refusal.number())
+/// The moment, or the number of the ground.
+fn numbered(clock: u64, trade: Trade) -> Result<u64, u8> {
+    moment(clock, trade).map_err(|refusal| refusal.number())
 }
 
 #[test]
@@ -138,18 +137,18 @@ fn executed_on_the_trading_day_before(rt: HostRuntime) {
     );
     assert_eq!(rt; moment(clock, trade(60_000, 15_000, execution)), Ok(clock));
     assert_eq!(rt;
-        ground(
+        numbered(
             clock,
             trade(60_000, 50_000, at(2018, Month::March, 28, 16, 0)),
         ),
-        Some(17)
+        Err(17)
     );
     assert_eq!(rt;
-        ground(
+        numbered(
             clock,
             trade(60_000, 50_000, at(2018, Month::March, 30, 9, 0)),
         ),
-        Some(17)
+        Err(17)
     );
 }
 
@@ -157,35 +156,35 @@ fn executed_on_the_trading_day_before(rt: HostRuntime) {
 fn grounds_in_their_order(rt: HostRuntime) {
     let clock = at(2018, Month::May, 8, 10, 0);
     assert_eq!(rt;
-        ground(at(2018, Month::May, 6, 10, 0), trade(0, 0, 0)),
-        Some(8)
+        numbered(at(2018, Month::May, 6, 10, 0), trade(0, 0, 0)),
+        Err(8)
     );
     assert_eq!(rt;
-        ground(at(2000, Month::January, 3, 10, 0), trade(0, 0, 0)),
-        Some(9)
+        numbered(at(2000, Month::January, 3, 10, 0), trade(0, 0, 0)),
+        Err(9)
     );
     assert_eq!(rt;
-        ground(at(2199, Month::December, 31, 10, 0), trade(0, 0, 0)),
-        Some(9)
+        numbered(at(2199, Month::December, 31, 10, 0), trade(0, 0, 0)),
+        Err(9)
     );
     assert_eq!(rt;
-        ground(at(2018, Month::May, 8, 5, 29), trade(0, 0, 0)),
-        Some(11)
+        numbered(at(2018, Month::May, 8, 5, 29), trade(0, 0, 0)),
+        Err(11)
     );
     assert_eq!(rt;
-        ground(at(2018, Month::May, 8, 16, 15), trade(0, 0, 0)),
-        Some(11)
+        numbered(at(2018, Month::May, 8, 16, 15), trade(0, 0, 0)),
+        Err(11)
     );
-    assert_eq!(rt; ground(clock, trade(0, 0, 0)), Some(15));
-    assert_eq!(rt; ground(clock, trade(0, 999_999_999, 0)), Some(17));
+    assert_eq!(rt; numbered(clock, trade(0, 0, 0)), Err(15));
+    assert_eq!(rt; numbered(clock, trade(0, 999_999_999, 0)), Err(17));
     let large = Trade {
         price: 1_000_001,
         ..trade(0, 999_999_999, 0)
     };
-    assert_eq!(rt; ground(clock, large), Some(16));
+    assert_eq!(rt; numbered(clock, large), Err(16));
     assert_eq!(rt;
-        ground(clock, trade(0, 1, clock.saturating_add(1))),
-        Some(17)
+        numbered(clock, trade(0, 1, clock.saturating_add(1))),
+        Err(17)
     );
-    assert_eq!(rt; ground(clock, trade(0, 1, clock)), None);
+    assert_eq!(rt; numbered(clock, trade(0, 1, clock)), Ok(clock));
 }

@@ -5,7 +5,6 @@ use deferral::question::{Class, Question};
 use deferral::schedule::Schedule;
 use deferral::tier::Tier;
 use refusal::Refusal;
-use std::process::Abort;
 use std::test::Fail;
 
 /// An average daily turnover, the amounts of its row in EUR, and the row's top tier.
@@ -116,42 +115,25 @@ fn tier_at<S: Schedule>(schedule: &S, class: Class, daily: u64, turnover: u64) -
     })
 }
 
-/// At an amount in EUR the tier is `reached`, and one unit below it `missed`.
-fn check_edge<S: Schedule>(
-    rt: &impl Abort,
-    schedule: &S,
-    class: Class,
-    daily: u64,
-    amount: u64,
-    missed: Tier,
-    reached: Tier,
-) {
+/// The tiers one unit below an amount in EUR, and at it.
+fn edge<S: Schedule>(schedule: &S, class: Class, daily: u64, amount: u64) -> (Tier, Tier) {
     let units = amount.saturating_mul(10_000);
-    assert_eq!(rt;
+    (
         tier_at(schedule, class, daily, units.saturating_sub(1)),
-        missed
-    );
-    assert_eq!(rt; tier_at(schedule, class, daily, units), reached);
+        tier_at(schedule, class, daily, units),
+    )
 }
 
 #[test]
 fn rows_for_equities(rt: HostRuntime) {
     for row in &ROWS {
         let [first, second, third] = row.amounts;
-        for (amount, missed, reached) in [
-            (first, Tier::Zero, Tier::One),
-            (second, Tier::One, Tier::Two),
-            (third, Tier::Two, row.top),
+        for (amount, tiers) in [
+            (first, (Tier::Zero, Tier::One)),
+            (second, (Tier::One, Tier::Two)),
+            (third, (Tier::Two, row.top)),
         ] {
-            check_edge(
-                &rt,
-                &AnnexTwo,
-                Class::Equity,
-                row.daily,
-                amount,
-                missed,
-                reached,
-            );
+            assert_eq!(rt; edge(&AnnexTwo, Class::Equity, row.daily, amount), tiers);
         }
     }
     assert_eq!(rt; tier_at(&AnnexTwo, Class::Equity, 0, u64::MAX), Tier::Four);
@@ -159,39 +141,24 @@ fn rows_for_equities(rt: HostRuntime) {
 
 #[test]
 fn amounts_for_etfs(rt: HostRuntime) {
-    check_edge(
-        &rt,
-        &AnnexTwo,
-        Class::Etf,
-        0,
-        10_000_000,
-        Tier::Zero,
-        Tier::One,
+    assert_eq!(rt;
+        edge(&AnnexTwo, Class::Etf, 0, 10_000_000),
+        (Tier::Zero, Tier::One)
     );
-    check_edge(
-        &rt,
-        &AnnexTwo,
-        Class::Etf,
-        999_999_999_999,
-        50_000_000,
-        Tier::One,
-        Tier::Three,
+    assert_eq!(rt;
+        edge(&AnnexTwo, Class::Etf, 999_999_999_999, 50_000_000),
+        (Tier::One, Tier::Three)
     );
 }
 
 #[test]
 fn flat_amounts(rt: HostRuntime) -> Result<(), Fail> {
     let flat = Flat::new(1, 5, 5, 100_000_000_000).map_err(|_| Fail::new("refused"))?;
-    check_edge(&rt, &flat, Class::Equity, 7, 1, Tier::Zero, Tier::One);
-    check_edge(&rt, &flat, Class::Etf, 7, 5, Tier::One, Tier::Three);
-    check_edge(
-        &rt,
-        &flat,
-        Class::Etf,
-        0,
-        100_000_000_000,
-        Tier::Three,
-        Tier::Four,
+    assert_eq!(rt; edge(&flat, Class::Equity, 7, 1), (Tier::Zero, Tier::One));
+    assert_eq!(rt; edge(&flat, Class::Etf, 7, 5), (Tier::One, Tier::Three));
+    assert_eq!(rt;
+        edge(&flat, Class::Etf, 0, 100_000_000_000),
+        (Tier::Three, Tier::Four)
     );
     Ok(())
 }

@@ -4,6 +4,7 @@ ghost use Rattle.std.specs.List.{prefix_len, list_all};
 ghost use Rattle.identifier.specs.Characters.{belongs, value_of};
 
 /// A class of bytes that a place in an identifier or in a line asks for.
+// A value and no test passed as a parameter: the definitions name the same classes, and each is asked for in three ways.
 #[derive(Clone, Copy)]
 pub(crate) enum Class {
     /// A to Z.

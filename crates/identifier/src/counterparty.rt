@@ -63,6 +63,7 @@ impl Counterparty {
         }
     }
 
+    // The word for `==` in clauses, by cases.
     /// Whether both are of one kind and have the same bytes.
     pub fn same(&self, other: &Counterparty) -> bool
         ensures { Decides result (self.now ≡ other.now) }

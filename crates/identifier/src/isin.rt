@@ -28,6 +28,7 @@ impl Isin {
         }
     }
 
+    // The word for `==` in clauses: exact by bytes, and by cases.
     /// Whether both have the same bytes.
     pub fn same(&self, other: &Isin) -> bool
         ensures value { result ≡ bytes_eq self.now.bytes other.now.bytes }

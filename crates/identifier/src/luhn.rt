@@ -14,6 +14,7 @@ struct Sums {
     ghost small: { (doubled < 10) × (plain < 10) },
 }
 
+// The flag chooses between the two weights of one digit, and the sums need both.
 /// What a digit counts for: doubled, the sum of the digits of the product.
 fn weight(doubled: bool, digit: u8) -> u32
     ensures { result ≡ weight doubled digit }

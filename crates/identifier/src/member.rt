@@ -9,6 +9,7 @@ pub struct Member {
 }
 
 impl Member {
+    // The word for `==` in clauses: exact by bytes, and by cases.
     /// Whether both have the same bytes.
     pub fn same(&self, other: &Member) -> bool
         ensures value { result ≡ bytes_eq self.now.bytes other.now.bytes }

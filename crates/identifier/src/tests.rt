@@ -5,16 +5,8 @@ use std::alloc::Global;
 use std::process::Abort;
 use std::test::Fail;
 
-fn is_right_isin(bytes: [u8; 12]) -> bool {
-    Isin { bytes }.check().is_ok()
-}
-
-fn is_wrong_isin(bytes: [u8; 12]) -> bool {
-    matches!(Isin { bytes }.check(), Err(Refusal::WrongIsin))
-}
-
-fn is_wrong(party: Counterparty) -> bool {
-    matches!(party.check(), Err(Refusal::WrongCounterparty))
+fn isin(bytes: [u8; 12]) -> Result<(), Refusal> {
+    Isin { bytes }.check()
 }
 
 fn found(rt: &impl Abort, heap: Global, line: &[u8], words: &str) -> Result<(), Fail> {
@@ -25,23 +17,32 @@ fn found(rt: &impl Abort, heap: Global, line: &[u8], words: &str) -> Result<(), 
 
 #[test]
 fn isins(rt: HostRuntime) {
-    assert!(rt; is_right_isin(*b"US0378331005"));
-    assert!(rt; is_right_isin(*b"AU0000XVGZA3"));
-    assert!(rt; is_wrong_isin(*b"US0378331006"));
-    assert!(rt; is_wrong_isin(*b"USO378331005"));
-    assert!(rt; is_wrong_isin([255; 12]));
+    assert_eq!(rt; isin(*b"US0378331005"), Ok(()));
+    assert_eq!(rt; isin(*b"AU0000XVGZA3"), Ok(()));
+    assert_eq!(rt; isin(*b"US0378331006"), Err(Refusal::WrongIsin));
+    assert_eq!(rt; isin(*b"USO378331005"), Err(Refusal::WrongIsin));
+    assert_eq!(rt; isin([255; 12]), Err(Refusal::WrongIsin));
 }
 
 #[test]
 fn counterparties(rt: HostRuntime) {
     let text = *b"7LTWFZYICNSX8D621K86";
-    assert!(rt; !is_wrong(Counterparty::Lei(text)));
-    assert!(rt; !is_wrong(Counterparty::Code(text)));
-    assert!(rt; is_wrong(Counterparty::Lei(*b"7LTWFZYICNSX8D621K68")));
-    assert!(rt; is_wrong(Counterparty::Lei([255; 20])));
-    assert!(rt; is_wrong(Counterparty::Code([255; 20])));
+    assert_eq!(rt; Counterparty::Lei(text).check(), Ok(()));
+    assert_eq!(rt; Counterparty::Code(text).check(), Ok(()));
+    assert_eq!(rt;
+        Counterparty::Lei(*b"7LTWFZYICNSX8D621K68").check(),
+        Err(Refusal::WrongCounterparty)
+    );
+    assert_eq!(rt;
+        Counterparty::Lei([255; 20]).check(),
+        Err(Refusal::WrongCounterparty)
+    );
+    assert_eq!(rt;
+        Counterparty::Code([255; 20]).check(),
+        Err(Refusal::WrongCounterparty)
+    );
     assert_eq!(rt; Counterparty::Code(text).letter(), b'D');
-    assert!(rt; Counterparty::with_letter(b'X', text).is_none());
+    assert_eq!(rt; Counterparty::with_letter(b'X', text), None);
 }
 
 #[test]

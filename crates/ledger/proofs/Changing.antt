@@ -1,6 +1,6 @@
 -- The one trade of a code, by its index among the trades.
 use mathlib.Core.List.{map-append}
-use Rattle.std.specs.List.{AllByRecursion as All}
+use Rattle.std.specs.List.{find, AllByRecursion as All}
 use Rattle.std.proofs.Common.{◌≡◌, ℕ, ◌+◌, ◌<◌, true, false, cond, List, [], ◌∷◌, Some, ◌++◌, length, get_or, take, drop, set, sym, refl, ap, ◌∙◌, add-one, arith}
 use Rattle.std.proofs.ByRecursion.{All-from_get_or}
 use Rattle.std.proofs.lemmas.List.{drop_more, get_or-drop, get_or-take, length-drop, length-take, set_split, take-append-drop}
@@ -8,7 +8,6 @@ use Rattle.std.proofs.lemmas.Bool.Decides.{nat_tests}
 use Rattle.std.proofs.lemmas.Bool.{cond-true, cond-false}
 use Rattle.report.specs.declared.report.Code.{Code}
 use Rattle.rulebook.specs.declared.record.Record.{Record}
-use Rattle.rulebook.specs.Lists.{first_of}
 use Rattle.rulebook.specs.Notebook.{same_code}
 use Rattle.rulebook.specs.Taken.{changed}
 use Rattle.ledger.specs.Totalled.{CodesApart, OnlyOne}
@@ -30,7 +29,7 @@ changed_one code g xs t ys one =
     ∙ ap (λ zs. xs ++ g t ∷ zs) (changed_none code g ys one.behind)
 
 -- the first of them is the one
-first_one : (code : Code) (xs : List Record) (t : Record) (ys : List Record) → OnlyOne code xs t ys → first_of (λ u. same_code u.code code) (xs ++ t ∷ ys) ≡ Some t
+first_one : (code : Code) (xs : List Record) (t : Record) (ys : List Record) → OnlyOne code xs t ys → find (λ u. same_code u.code code) (xs ++ t ∷ ys) ≡ Some t
 first_one code [] t ys one = cond-true _ _ _ one.its
 first_one code (x ∷ xs) t ys one =
     cond-false _ _ _ one.before.0 ∙ first_one code xs t ys (record { its = one.its; before = one.before.1; behind = one.behind })
@@ -71,7 +70,7 @@ module _ (rs : List Record) (i : ℕ) (d : Record) (h : i < length rs) where
       ∙ sym (set_split rs i (g (get_or rs i d)) h)
 
   -- and is the first of its code
-  pub first_at : CodesApart rs → first_of (λ u. same_code u.code (get_or rs i d).code) rs ≡ Some (get_or rs i d)
+  pub first_at : CodesApart rs → find (λ u. same_code u.code (get_or rs i d).code) rs ≡ Some (get_or rs i d)
   first_at apart =
-      ap (first_of (λ u. same_code u.code (get_or rs i d).code)) split_at
+      ap (find (λ u. same_code u.code (get_or rs i d).code)) split_at
       ∙ first_one (get_or rs i d).code (take i rs) (get_or rs i d) (drop (i + 1) rs) (only_one apart)

@@ -1,13 +1,13 @@
 -- The codes of held days: which there are, that they are apart, and at which index each stands.
 use Rattle.std.proofs.Common.{◌≡◌, ℕ, zero, suc, ◌+◌, ◌-◌, ◌^◌, ◌<◌, ◌≤◌, min, true, false, ◌||◌, eqb, ltb, List, [], ◌∷◌, ◌++◌, map, length, get_or, Some, None, Option, sym, refl, ap, ◌∙◌, arith}
-use Rattle.std.specs.List.{range_with_len, AllByRecursion as All}
+use Rattle.std.specs.List.{find, range_with_len, AllByRecursion as All}
 use Rattle.std.proofs.ByRecursion.{All-get_or, All-append, All-map, All-weaker, All-from_get_or}
 use Rattle.std.proofs.lemmas.List.{length-append, get_or_append_left, get_or-append-add}
 use Rattle.std.proofs.lemmas.List.FromFn.{length-map-range_with_len, get_or-map-range_with_len, map-range_with_len_more}
 use Rattle.std.proofs.lemmas.Bool.{both_ways, and_parts, eqb-true, eqb-false, ltb-false, or_parts, cond_both}
 use Rattle.std.proofs.lemmas.Bool.Decides.{nat_tests}
 use Rattle.report.specs.declared.report.Code.{Code}
-use Rattle.rulebook.specs.Lists.{first_of, numbers, and_then}
+use Rattle.rulebook.specs.Lists.{and_then}
 use Rattle.rulebook.specs.Notebook.{same_code}
 use Rattle.ledger.specs.declared.held_day.HeldDay.{HeldDay}
 use Rattle.ledger.specs.HeldDay.{is_day, place_in, code_in, with_next}
@@ -16,14 +16,10 @@ use Rattle.ledger.specs.Filed.{codes_of, all_codes, Apart, Begin, Later, Falling
 
 -- ---- numbers, one after another
 
-numbers_are : (first n : ℕ) → numbers first n ≡ range_with_len first n
-numbers_are first zero = refl
-numbers_are first (suc n) = ap (λ l. first ∷ l) (numbers_are (first + 1) n)
-
-numbers_within : (first n : ℕ) → All (λ s. (first ≤ s) × (s < first + n)) (numbers first n)
+numbers_within : (first n : ℕ) → All (λ s. (first ≤ s) × (s < first + n)) (range_with_len first n)
 numbers_within first zero = tt
 numbers_within first (suc n) =
-    ((omega arith, omega arith), All-weaker (λ s. (first + 1 ≤ s) × (s < first + 1 + n)) (λ s. (first ≤ s) × (s < first + suc n)) (λ s h. (omega arith, omega arith)) (numbers (first + 1) n) (numbers_within (first + 1) n))
+    ((omega arith, omega arith), All-weaker (λ s. (first + 1 ≤ s) × (s < first + 1 + n)) (λ s. (first ≤ s) × (s < first + suc n)) (λ s h. (omega arith, omega arith)) (range_with_len (first + 1) n) (numbers_within (first + 1) n))
 
 -- ---- codes that are the same, and that are not
 
@@ -40,39 +36,33 @@ same_from_is a b e = let d : a.day ≡ b.day = ap (λ c. c.day) e in let s : a.s
 
 -- ---- what holds of all codes
 
-codes_are : (h : HeldDay) → codes_of h ≡ map (code_in h) (range_with_len 1 h.taken)
-codes_are h = ap (map (code_in h)) (numbers_are 1 h.taken)
-
 pub length_codes : (h : HeldDay) → length (codes_of h) ≡ h.taken
-length_codes h = ap length (codes_are h) ∙ length-map-range_with_len (code_in h) 1 h.taken
+length_codes h = length-map-range_with_len (code_in h) 1 h.taken
 
 get_or_codes : (h : HeldDay) (i serial : ℕ) (d : Code) → i < h.taken → 1 + i ≡ serial → get_or (codes_of h) i d ≡ code_in h serial
-get_or_codes h i serial d l is = ap (λ cs. get_or cs i d) (codes_are h) ∙ get_or-map-range_with_len (code_in h) 1 h.taken i serial d l is
+get_or_codes h i serial d l is = get_or-map-range_with_len (code_in h) 1 h.taken i serial d l is
 
 pub codes_more : (h : HeldDay) → codes_of (with_next h) ≡ codes_of h ++ code_in h (h.taken + 1) ∷ []
-codes_more h =
-    codes_are (with_next h)
-    ∙ map-range_with_len_more (code_in h) 1 h.taken (h.taken + 1) (omega arith)
-    ∙ ap (λ cs. cs ++ code_in h (h.taken + 1) ∷ []) (sym (codes_are h))
+codes_more h = map-range_with_len_more (code_in h) 1 h.taken (h.taken + 1) (omega arith)
 
 -- a fact on the day holds of the day of each code
 pub each_day_in : (P : ℕ → Type 0) (h : HeldDay) → P h.opened.day → All (λ c. P c.day) (codes_of h)
-each_day_in P h p = All-map (λ c. P c.day) (code_in h) (numbers 1 h.taken) (All-from_get_or (λ s. P h.opened.day) (numbers 1 h.taken) 0 (λ i l. p))
+each_day_in P h p = All-map (λ c. P c.day) (code_in h) (range_with_len 1 h.taken) (All-from_get_or (λ s. P h.opened.day) (range_with_len 1 h.taken) 0 (λ i l. p))
 
 pub each_day : (P : ℕ → Type 0) (hs : List HeldDay) → All (λ h. P h.opened.day) hs → All (λ c. P c.day) (all_codes hs)
 each_day P [] p = tt
 each_day P (h ∷ hs) (p, ps) = All-append (λ c. P c.day) (all_codes hs) (codes_of h) (each_day P hs ps) (each_day_in P h p)
 
 each_serial : (h : HeldDay) → All (λ c. (1 ≤ c.serial) × (c.serial < 1 + h.taken)) (codes_of h)
-each_serial h = All-map (λ c. (1 ≤ c.serial) × (c.serial < 1 + h.taken)) (code_in h) (numbers 1 h.taken) (numbers_within 1 h.taken)
+each_serial h = All-map (λ c. (1 ≤ c.serial) × (c.serial < 1 + h.taken)) (code_in h) (range_with_len 1 h.taken) (numbers_within 1 h.taken)
 
 -- ---- codes are apart
 
-apart_numbers : (h : HeldDay) (first n : ℕ) → Apart (map (code_in h) (numbers first n))
+apart_numbers : (h : HeldDay) (first n : ℕ) → Apart (map (code_in h) (range_with_len first n))
 apart_numbers h first zero = tt
 apart_numbers h first (suc n) = (
-  All-map (λ e. same_code (code_in h first) e ≡ false) (code_in h) (numbers (first + 1) n)
-      (All-weaker (λ s. (first + 1 ≤ s) × (s < first + 1 + n)) (λ s. same_code (code_in h first) (code_in h s) ≡ false) (λ s l. grind (arith, nat_tests, l.0)) (numbers (first + 1) n) (numbers_within (first + 1) n)),
+  All-map (λ e. same_code (code_in h first) e ≡ false) (code_in h) (range_with_len (first + 1) n)
+      (All-weaker (λ s. (first + 1 ≤ s) × (s < first + 1 + n)) (λ s. same_code (code_in h first) (code_in h s) ≡ false) (λ s l. grind (arith, nat_tests, l.0)) (range_with_len (first + 1) n) (numbers_within (first + 1) n)),
   apart_numbers h (first + 1) n,
 )
 
@@ -145,7 +135,7 @@ module _ (h : HeldDay) (front : List Code) (code : Code) (day : h.opened.day ≡
 pub indexed : (hs : List HeldDay) (code : Code) → Begin hs → Falling hs → length (all_codes hs) < 2 ^ 64 → Indexed (all_codes hs) code (index_in hs code)
 indexed [] code b f small = tt
 indexed (h ∷ hs) code (first, b) (later, f) small =
-    cond_both (is_day code.day h) (Some h) (first_of (is_day code.day) hs) (λ o. Indexed (all_codes (h ∷ hs)) code (and_then o (place_in code.serial)))
+    cond_both (is_day code.day h) (Some h) (find (is_day code.day) hs) (λ o. Indexed (all_codes (h ∷ hs)) code (and_then o (place_in code.serial)))
     (λ e. here (eqb-true h.opened.day code.day e))
     (λ e. indexed_front (all_codes hs) (codes_of h) code (index_in hs code) (indexed hs code b f (omega (arith, length-append (all_codes hs) (codes_of h))))
     (All-weaker (λ c. c.day ≡ code.day → ⊥) (λ c. same_code c code ≡ false) (λ c other. grind (arith, nat_tests, other)) (codes_of h) (each_day_in (λ day. day ≡ code.day → ⊥) h (eqb-false h.opened.day code.day e))))

@@ -1,13 +1,12 @@
 -- What holds of records that are filed in the order of their codes.
 use Rattle.std.proofs.Common.{◌≡◌, ℕ, ◌+◌, ◌^◌, ◌<◌, Bool, true, false, cond, eqb, List, [], ◌∷◌, ◌++◌, map, length, get_or, take, drop, set, Some, None, filter, Option, sym, refl, ap, ◌∙◌, subst, arith}
-use Rattle.std.specs.List.{AllByRecursion as All}
+use Rattle.std.specs.List.{find, AllByRecursion as All}
 use Rattle.std.proofs.lemmas.List.Elements.{filter-append}
 use Rattle.std.proofs.ByRecursion.{All-weaker, All-get_or}
 use Rattle.std.proofs.lemmas.List.{append_assoc, length-append, length-map, length-drop, get_or-map, map_push, map-set, set-get_or, take_at, drop_at, take-map, drop-map, take-append-drop}
 use Rattle.std.proofs.lemmas.Bool.{both_ways, eq-eqb, ne_eqb, cond-true, cond-false}
 use Rattle.report.specs.declared.report.Code.{Code}
 use Rattle.rulebook.specs.declared.record.Record.{Record}
-use Rattle.rulebook.specs.Lists.{first_of}
 use Rattle.rulebook.specs.Notebook.{Notebook, same_code, latest_day, of_day, next_code}
 use Rattle.rulebook.specs.Taken.{changed}
 use Rattle.ledger.specs.declared.held_day.HeldDay.{HeldDay}
@@ -25,9 +24,9 @@ all_unmap P f (y ∷ ys) (h, hs) = (h, all_unmap P f ys hs)
 
 -- ---- a code is an index
 
-first_missing : (rs : List Record) (code : Code) → All (λ t. same_code t.code code ≡ false) rs → first_of (λ t. same_code t.code code) rs ≡ None
+first_missing : (rs : List Record) (code : Code) → All (λ t. same_code t.code code ≡ false) rs → find (λ t. same_code t.code code) rs ≡ None
 first_missing [] code h = refl
-first_missing (t ∷ rs) code (h, hs) = cond-false (same_code t.code code) (Some t) (first_of (λ u. same_code u.code code) rs) h ∙ first_missing rs code hs
+first_missing (t ∷ rs) code (h, hs) = cond-false (same_code t.code code) (Some t) (find (λ u. same_code u.code code) rs) h ∙ first_missing rs code hs
 
 module _ (hs : List HeldDay) (rs : List Record) (filed : Filed hs rs) where
   pub records_apart : Apart (record_codes rs)
@@ -56,7 +55,7 @@ module _ (hs : List HeldDay) (rs : List Record) (filed : Filed hs rs) where
       record {
         within = l';
         has_code = at;
-        found = λ d. ap (λ c. first_of (λ t. same_code t.code c) rs) (sym (at d)) ∙ first_at rs i d l' apart;
+        found = λ d. ap (λ c. find (λ t. same_code t.code c) rs) (sym (at d)) ∙ first_at rs i d l' apart;
         changes = λ f d. ap (λ c. changed c f rs) (sym (at d)) ∙ changed_at rs i d l' f apart;
       }
 
@@ -131,11 +130,11 @@ module _ (h : HeldDay) (hs : List HeldDay) (rs : List Record) (filed : Filed (h 
 
 some_given : (b : Bool) (c code : Code) → cond b (Some c) None ≡ Some code → (b ≡ true) × (c ≡ code)
 some_given true c code e = (refl, cc)
-some_given false c code e = let z : ◌≡◌ {A = ℕ} 0 1 = cc in absurd (omega arith)
+some_given false c code e = absurd cc
 
 -- a trade with the next code is filed under the latest day
 pub filed_next : (hs : List HeldDay) (rs : List Record) (t : Record) → next_in hs ≡ Some t.code → Filed hs rs → Filed (counted hs) (rs ++ t ∷ [])
-filed_next [] rs t e filed = let z : ◌≡◌ {A = ℕ} 0 1 = cc in absurd (omega arith)
+filed_next [] rs t e filed = absurd cc
 filed_next (h ∷ hs) rs t e filed =
     let given = some_given (has_next h) (code_in h (h.taken + 1)) t.code e in
     subst (λ g. Filed (g ∷ hs) (rs ++ t ∷ [])) (sym (cond-true (has_next h) (with_next h) h given.0)) (filed_added h hs rs filed t (sym given.1))
@@ -149,5 +148,5 @@ next_is nb h hs days filed =
     code_from_parts (next_code nb) (code_in h (h.taken + 1)) day (ap (λ n. n + 1) count)
 
 pub given_is_next : (nb : Notebook) (hs : List HeldDay) (code : Code) → nb.days ≡ map (λ h. h.opened) hs → Filed hs nb.records → next_in hs ≡ Some code → next_code nb ≡ code
-given_is_next nb [] code days filed e = let z : ◌≡◌ {A = ℕ} 0 1 = cc in absurd (omega arith)
+given_is_next nb [] code days filed e = absurd cc
 given_is_next nb (h ∷ hs) code days filed e = next_is nb h hs days filed ∙ (some_given (has_next h) (code_in h (h.taken + 1)) code e).1

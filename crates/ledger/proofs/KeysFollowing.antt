@@ -3,13 +3,12 @@ use Rattle.std.proofs.Common.{◌≡◌, ℕ, ◌<◌, ◌≤◌, Bool, true, fa
 use Rattle.std.proofs.ByRecursion.{All-weaker}
 use Rattle.std.proofs.lemmas.Bool.Decides.{nat_tests}
 use Rattle.std.proofs.lemmas.Bool.{cases_Bool, lt-ltb}
-use Rattle.std.specs.List.{AllByRecursion as All}
+use Rattle.std.specs.List.{list_any, AllByRecursion as All}
 use Rattle.register.specs.Laws.{Laws}
 use Rattle.register.specs.Lists.{Rising, has, with_key}
 use Rattle.register.specs.Order.{same}
 use Rattle.report.specs.declared.report.Code.{Code}
 use Rattle.rulebook.specs.declared.record.Record.{Record}
-use Rattle.rulebook.specs.Lists.{some_of}
 use Rattle.rulebook.specs.Notebook.{same_code}
 use Rattle.rulebook.specs.Taken.{changed}
 use Rattle.ledger.specs.Mirrors.{is_key, Mirrors}
@@ -48,12 +47,12 @@ module _ {K : Type 0} {lt : K → K → Bool} (laws : Laws lt) (f : Record → O
 
     module _ (code : Code) (g : Record → Record) (t : Record) (only : All (λ u. same_code u.code code ≡ true → u ≡ t) rs) where
       -- the trade of a code changes, and its key is put if it comes to have one
-      pub follows_come : (o : Option K) → some_of (λ u. same_code u.code code) rs ≡ true → f t ≡ None → f (g t) ≡ o → length rs ≤ places → Mirrors lt f (changed code g rs) (put_some lt o places ks)
+      pub follows_come : (o : Option K) → list_any (λ u. same_code u.code code) rs ≡ true → f t ≡ None → f (g t) ≡ o → length rs ≤ places → Mirrors lt f (changed code g rs) (put_some lt o places ks)
       follows_come None there had-none has-none room = mirrors_same laws f code g t rs ks only m (has-none ∙ sym had-none)
       follows_come (Some k) there had-none has-k room =
           λ j. put_has k places ks few j ∙ mirrors_come laws f code g t rs ks only m k there had-none has-k j
         where
-          one_without : some_of (λ u. not (is_some (f u))) rs ≡ true
+          one_without : list_any (λ u. not (is_some (f u))) rs ≡ true
           one_without =
               some_where
               (λ u. same_code u.code code)

@@ -1,7 +1,7 @@
 -- What a search for an ISIN's place finds, and what a listing leaves.
 use Rattle.std.proofs.Common.{◌≡◌, ℕ, zero, suc, ◌+◌, ◌<◌, ◌≤◌, true, false, cond, ltb, ◌⊎◌, List, [], ◌∷◌, ◌++◌, map, length, get_or, take, set, is_some, Some, None, Option, sym, refl, ap, ◌∙◌, inl, inr, arith}
 use lib.Seq.{take-set-lt}
-use Rattle.std.specs.List.{position_from, AllByRecursion as All}
+use Rattle.std.specs.List.{find, position_from, AllByRecursion as All}
 use Rattle.std.proofs.lemmas.List.{get_or_default, get_or-take, length-take-le, take_more_set}
 use Rattle.std.proofs.lemmas.Iterator.Adapters.{position_from-zero}
 use Rattle.std.proofs.lemmas.List.Quantifiers.{position-Some}
@@ -9,7 +9,6 @@ use Rattle.std.proofs.lemmas.Bool.{true≢false, lt-ltb, cond-true, cond-false}
 use Rattle.identifier.specs.declared.isin.Isin.{Isin}
 use Rattle.report.specs.declared.security.Security.{Security}
 use Rattle.rulebook.specs.declared.record.Record.{Record}
-use Rattle.rulebook.specs.Lists.{first_of}
 use Rattle.rulebook.specs.Notebook.{same_isin}
 use Rattle.rulebook.specs.Taken.{with_security}
 use Rattle.ledger.specs.declared.listed.Listed.{Listed}
@@ -22,7 +21,7 @@ use Rattle.ledger.proofs.Isins.{isin_sym}
 first_security :
     (isin : Isin) (xs : List Listed) (i : ℕ) (d : Listed) → i < length xs → same_isin (get_or xs i d).security.isin isin ≡ true
     → ((k : ℕ) → k < i → same_isin (get_or xs k d).security.isin isin ≡ false)
-    → first_of (λ s. same_isin s.isin isin) (map (λ l. l.security) xs) ≡ Some (get_or xs i d).security
+    → find (λ s. same_isin s.isin isin) (map (λ l. l.security) xs) ≡ Some (get_or xs i d).security
 first_security isin [] i d h is none = absurd (omega arith)
 first_security isin (x ∷ xs) zero d h is none = cond-true _ _ _ is
 first_security isin (x ∷ xs) (suc i) d h is none =
@@ -42,11 +41,11 @@ first_over s (x ∷ xs) (suc i) d h is none =
 pub record FoundAt (isin : Isin) (xs : List Listed) (place : ℕ) : Type 0 where
   pub within : place < length xs
   pub same : (d : Listed) → same_isin (get_or xs place d).security.isin isin ≡ true
-  pub security : (d : Listed) → first_of (λ s. same_isin s.isin isin) (map (λ l. l.security) xs) ≡ Some (get_or xs place d).security
+  pub security : (d : Listed) → find (λ s. same_isin s.isin isin) (map (λ l. l.security) xs) ≡ Some (get_or xs place d).security
   pub over : (s : Security) (d : Listed) → s.isin ≡ isin → with_listing s xs ≡ set xs place (written_over s (get_or xs place d))
 
 pub found : (isin : Isin) (xs : List Listed) (place : ℕ) → place_of xs isin ≡ Some place → FoundAt isin xs place
-found isin [] place h = let z : ◌≡◌ {A = ℕ} 0 1 = cc in absurd (omega arith)
+found isin [] place h = absurd cc
 found isin (x ∷ tail) place h =
     let xs = x ∷ tail in
     let f = λ (d : Listed). position-Some (λ l. same_isin l.security.isin isin) xs place d h in
@@ -78,7 +77,7 @@ unlisted_from isin k [] h = tt
 unlisted_from isin k (x ∷ xs) h =
     elim (same_isin x.security.isin isin) as
     (λ b. cond b (Some k) (position_from (λ l. same_isin l.security.isin isin) (k + 1) xs) ≡ None → (b ≡ false) × All (λ l. same_isin l.security.isin isin ≡ false) xs) [
-      | true ↦ λ e. let z : ◌≡◌ {A = ℕ} 0 1 = cc in absurd (omega arith)
+      | true ↦ λ e. absurd cc
       | false ↦ λ e. (refl, unlisted_from isin (k + 1) xs e)
     ] h
 
@@ -87,10 +86,10 @@ unlisted isin xs h = unlisted_from isin 0 xs (sym (position_from-zero (λ l. sam
 
 pub no_security :
     (isin : Isin) (xs : List Listed) → All (λ l. same_isin l.security.isin isin ≡ false) xs
-    → first_of (λ s. same_isin s.isin isin) (map (λ l. l.security) xs) ≡ None
+    → find (λ s. same_isin s.isin isin) (map (λ l. l.security) xs) ≡ None
 no_security isin [] a = refl
 no_security isin (x ∷ xs) a =
-    ap (λ b. cond b (Some x.security) (first_of (λ s. same_isin s.isin isin) (map (λ l. l.security) xs))) a.0
+    ap (λ b. cond b (Some x.security) (find (λ s. same_isin s.isin isin) (map (λ l. l.security) xs))) a.0
     ∙ no_security isin xs a.1
 
 -- a security that is not listed comes last

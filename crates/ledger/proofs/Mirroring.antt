@@ -3,13 +3,12 @@ use Rattle.std.proofs.Common.{◌≡◌, Bool, true, false, cond, not, ◌&&◌,
 use Rattle.std.proofs.ByRecursion.{All-weaker}
 use Rattle.std.proofs.lemmas.Bool.{cases_Bool}
 use Rattle.std.proofs.lemmas.Bool.Decides.{nat_tests}
-use Rattle.std.specs.List.{AllByRecursion as All}
+use Rattle.std.specs.List.{list_any, AllByRecursion as All}
 use Rattle.register.specs.Laws.{Laws}
 use Rattle.register.specs.Lists.{from, with_key, without}
 use Rattle.register.specs.Order.{same}
 use Rattle.report.specs.declared.report.Code.{Code}
 use Rattle.rulebook.specs.declared.record.Record.{Record}
-use Rattle.rulebook.specs.Lists.{some_of}
 use Rattle.rulebook.specs.Notebook.{same_code}
 use Rattle.rulebook.specs.Taken.{changed}
 use Rattle.ledger.specs.Mirrors.{is_key, Mirrors}
@@ -26,13 +25,13 @@ module _ {K : Type 0} {lt : K → K → Bool} (laws : Laws lt) (f : Record → O
   -- ---- a trade is added
   pub mirrors_added_without_key : (rs : List Record) (ks : List K) (t : Record) → f t ≡ None → Mirrors lt f rs ks → Mirrors lt f (rs ++ t ∷ []) ks
   mirrors_added_without_key rs ks t e m j =
-      m j ∙ sym (some_push (λ u. is_key lt (f u) j) rs t ∙ ap (λ b. b || some_of (λ u. is_key lt (f u) j) rs) (is_none (f t) j e))
+      m j ∙ sym (some_push (λ u. is_key lt (f u) j) rs t ∙ ap (λ b. b || list_any (λ u. is_key lt (f u) j) rs) (is_none (f t) j e))
 
   pub mirrors_added : (rs : List Record) (ks : List K) (t : Record) (k : K) → f t ≡ Some k → Mirrors lt f rs ks → Mirrors lt f (rs ++ t ∷ []) (with_key lt k ks)
   mirrors_added rs ks t k e m j =
       laws.has_with k j ks
       ∙ ap (λ b. same lt k j || b) (m j)
-      ∙ sym (some_push (λ u. is_key lt (f u) j) rs t ∙ ap (λ b. b || some_of (λ u. is_key lt (f u) j) rs) (is_only (f t) k j e))
+      ∙ sym (some_push (λ u. is_key lt (f u) j) rs t ∙ ap (λ b. b || list_any (λ u. is_key lt (f u) j) rs) (is_only (f t) k j e))
 
   -- ---- the trade of a code changes: t, and all others of that code are t
   module _ (code : Code) (g : Record → Record) (t : Record) (rs : List Record) (ks : List K)
@@ -51,7 +50,7 @@ module _ {K : Type 0} {lt : K → K → Bool} (laws : Laws lt) (f : Record → O
           either u true is-t o = subst (λ v. R true v (g v)) (sym (is-t refl)) at_t
           either u false is-t o = o refl
 
-      some_changed : (j : K) → some_of (λ u. is_key lt (f u) j) (changed code g rs) ≡ some_of (λ u. is_key lt (f (cond (same_code u.code code) (g u) u)) j) rs
+      some_changed : (j : K) → list_any (λ u. is_key lt (f u) j) (changed code g rs) ≡ list_any (λ u. is_key lt (f (cond (same_code u.code code) (g u) u)) j) rs
       some_changed j = some_map (λ u. is_key lt (f u) j) (λ u. cond (same_code u.code code) (g u) u) rs
 
       pub mirrors_same : f (g t) ≡ f t → Mirrors lt f (changed code g rs) ks
@@ -91,11 +90,11 @@ module _ {K : Type 0} {lt : K → K → Bool} (laws : Laws lt) (f : Record → O
               (cases_Bool (same lt k j))
 
       -- a trade has the code, and its key comes
-      pub mirrors_come : (k : K) → some_of (λ u. same_code u.code code) rs ≡ true → f t ≡ None → f (g t) ≡ Some k → Mirrors lt f (changed code g rs) (with_key lt k ks)
+      pub mirrors_come : (k : K) → list_any (λ u. same_code u.code code) rs ≡ true → f t ≡ None → f (g t) ≡ Some k → Mirrors lt f (changed code g rs) (with_key lt k ks)
       mirrors_come k there had-none has-k j =
           laws.has_with k j ks
           ∙ ap (λ b. same lt k j || b) (m j)
-          ∙ ap (λ b. (b && same lt k j) || some_of (λ u. is_key lt (f u) j) rs) (sym there)
+          ∙ ap (λ b. (b && same lt k j) || list_any (λ u. is_key lt (f u) j) rs) (sym there)
           ∙ sym (some_changed j
           ∙ some_or
           (same lt k j)

@@ -1,11 +1,11 @@
 -- The ends of a stretch are the keys of the trades that the sheet's figures come from.
-use Rattle.std.proofs.Common.{◌≡◌, ℕ, ◌+◌, Bool, true, false, not, ◌&&◌, eqb, List, Some, None, filter, Option, sym, refl, ◌∙◌, arith}
+use Rattle.std.proofs.Common.{◌≡◌, ℕ, ◌+◌, Bool, true, false, not, ◌&&◌, eqb, List, Some, None, filter, Option, sym, ◌∙◌, arith}
 use Rattle.std.proofs.lemmas.List.MinMax.{IsStrictWeakOrder-by_number, IsStrictWeakOrder-flip}
 use Rattle.std.proofs.ByRecursion.{All-weaker, all_kept_by, kept_by_passes}
 use Rattle.std.proofs.lemmas.Bool.{and_parts, eqb-true}
 use Rattle.std.proofs.lemmas.Bool.Decides.{nat_tests}
 use Rattle.std.specs.Cmp.{IsStrictWeakOrder}
-use Rattle.std.specs.List.{AllByRecursion as All}
+use Rattle.std.specs.List.{list_any, AllByRecursion as All}
 use Rattle.std.specs.Option.{option_map}
 use Rattle.identifier.specs.declared.isin.Isin.{Isin}
 use Rattle.register.specs.declared.execution.ExecutionKey.{ExecutionKey}
@@ -16,7 +16,7 @@ use Rattle.register.specs.Order.{same}
 use Rattle.report.specs.declared.figures.Sheet.{Sheet}
 use Rattle.report.specs.Published.{makes_prices}
 use Rattle.rulebook.specs.declared.record.Record.{Record}
-use Rattle.rulebook.specs.Lists.{some_of, first_by}
+use Rattle.rulebook.specs.Lists.{first_by}
 use Rattle.rulebook.specs.Notebook.{same_isin, of_day}
 use Rattle.rulebook.specs.Sheets.{counts, on_sheet, priced, price_of, cheaper, executed_before}
 use Rattle.ledger.specs.Keys.{price_key, execution_key}
@@ -35,10 +35,6 @@ least_ends lt xs held (Some x) e l = (sym (e x) ∙ l.0, λ k h. l.1 k (e k ∙ 
 greatest_ends : {K : Type 0} (lt : K → K → Bool) (xs : List K) (held : K → Bool) (found : Option K) → ((k : K) → has lt k xs ≡ held k) → Greatest lt xs found → Ends (λ j k. lt k j) held found
 greatest_ends lt xs held None e l = λ k. sym (e k) ∙ l k
 greatest_ends lt xs held (Some x) e l = (sym (e x) ∙ l.0, λ k h. l.1 k (e k ∙ h))
-
-price_is : (o : Option Record) → option_map (λ t. t.report.price) o ≡ price_of o
-price_is None = refl
-price_is (Some t) = refl
 
 module _ (day security : ℕ) where
   all_of_day : (sheet : Sheet) (isin : Isin) (rs : List Record) → All (λ t. t.code.day ≡ day) (priced (filter (on_sheet isin day sheet) rs))
@@ -83,19 +79,19 @@ module _ (day security : ℕ) where
         (ks : List K) (mirrors : Mirrors lt (sheet_key key sheet place) rs ks) (low high : K) (starts : low ≡ start day security)
         (stops : high ≡ start day (security + 1)) (found : Option K)
       where
-        held : (k : K) → has lt k (between lt low high ks) ≡ some_of (λ t. same lt (key security t) k) on_it
+        held : (k : K) → has lt k (between lt low high ks) ≡ list_any (λ t. same lt (key security t) k) on_it
         held = stretch_has laws key start day security in_stretch sheet place isin rs ks placed mirrors low high starts stops
 
         first_shown : Least lt (between lt low high ks) found → option_map shown found ≡ option_map (λ t. shown (key security t)) (first_by before on_it)
         first_shown e =
             shown_first laws lt (key security) shown before ranks (λ t. t.code.day ≡ day) level on_it found (all_of_day sheet isin rs)
-            (least_ends lt (between lt low high ks) (λ k. some_of (λ t. same lt (key security t) k) on_it) found held e)
+            (least_ends lt (between lt low high ks) (λ k. list_any (λ t. same lt (key security t) k) on_it) found held e)
 
         last_shown : Greatest lt (between lt low high ks) found → option_map shown found ≡ option_map (λ t. shown (key security t)) (first_by (λ t u. before u t) on_it)
         last_shown e =
             shown_first laws (λ j k. lt k j) (key security) shown (λ t u. before u t) (IsStrictWeakOrder-flip before ranks) (λ t. t.code.day ≡ day)
             (λ t u d e c n. sym (level u t e d c n)) on_it found (all_of_day sheet isin rs)
-            (greatest_ends lt (between lt low high ks) (λ k. some_of (λ t. same lt (key security t) k) on_it) found held e)
+            (greatest_ends lt (between lt low high ks) (λ k. list_any (λ t. same lt (key security t) k) on_it) found held e)
 
     module _ (ks : List PriceKey) (mirrors : Mirrors price_before (sheet_price sheet place) rs ks) (low high : PriceKey)
         (starts : low ≡ price_start day security) (stops : high ≡ price_start day (security + 1)) (found : Option PriceKey)
@@ -104,13 +100,11 @@ module _ (day security : ℕ) where
         low_is e =
             first_shown price_laws price_key price_start (λ p t. inside t.code.day p t.report.price t.code.serial day security) (λ k. k.price)
             cheaper cheaper_ranks one_price ks mirrors low high starts stops found e
-            ∙ price_is (first_by cheaper on_it)
 
         pub high_is : Greatest price_before (between price_before low high ks) found → option_map (λ k. k.price) found ≡ price_of (first_by (λ t u. cheaper u t) on_it)
         high_is e =
             last_shown price_laws price_key price_start (λ p t. inside t.code.day p t.report.price t.code.serial day security) (λ k. k.price)
             cheaper cheaper_ranks one_price ks mirrors low high starts stops found e
-            ∙ price_is (first_by (λ t u. cheaper u t) on_it)
 
     module _ (ks : List ExecutionKey) (mirrors : Mirrors execution_before (sheet_execution sheet place) rs ks) (low high : ExecutionKey)
         (starts : low ≡ execution_start day security) (stops : high ≡ execution_start day (security + 1)) (found : Option ExecutionKey)

@@ -1,6 +1,6 @@
 -- What a listing keeps of the totals.
 use Rattle.std.proofs.Common.{◌≡◌, ℕ, ◌≤◌, true, false, ◌&&◌, List, [], ◌∷◌, map, length, get_or, replicate, is_some, filter, sym, refl, ap, ◌∙◌, inl, inr, arith}
-use Rattle.std.specs.List.{AllByRecursion as All}
+use Rattle.std.specs.List.{find, AllByRecursion as All}
 use Rattle.std.specs.Str.{bytes_eq}
 use Rattle.std.proofs.ByRecursion.{All-weaker}
 use Rattle.std.proofs.lemmas.List.{get_or-replicate}
@@ -10,7 +10,6 @@ use Rattle.report.specs.declared.figures.Sheet.TheVariants.{Full, Public}
 use Rattle.report.specs.declared.security.Security.{Security}
 use Rattle.register.proofs.Members.{kept_none}
 use Rattle.rulebook.specs.declared.record.Record.{Record}
-use Rattle.rulebook.specs.Lists.{first_of}
 use Rattle.rulebook.specs.Notebook.{same_isin, of_day}
 use Rattle.rulebook.specs.Sheets.{counts, on_sheet}
 use Rattle.ledger.specs.declared.listed.Listed.{Listed}
@@ -64,7 +63,7 @@ pub none_traded :
     (s : Security) (ls : List Listed) (rs : List Record) → EachListed (map (λ l. l.security) ls) rs
     → All (λ l. same_isin l.security.isin s.isin ≡ false) ls → All (λ t. same_isin t.report.isin s.isin ≡ false) rs
 none_traded s ls rs each new =
-    All-weaker (λ t. is_some (first_of (λ x. same_isin x.isin t.report.isin) (map (λ l. l.security) ls)) ≡ true)
+    All-weaker (λ t. is_some (find (λ x. same_isin x.isin t.report.isin) (map (λ l. l.security) ls)) ≡ true)
     (λ t. same_isin t.report.isin s.isin ≡ false)
     (λ t has.
     elim (cases_Bool (same_isin t.report.isin s.isin)) [

@@ -5,14 +5,13 @@ use Rattle.std.specs.Slice.Iter.{iter_rest}
 use Rattle.std.proofs.iter.Yields.{fronts}
 use denote.Ref.{Bor}
 use Rattle.std.specs.Iterator.Adapters.{option_iter_item, option_iter_done, option_iter_steps, flatten_source, flatten_front, flatten_back, flatten_done, flatten_steps}
-use Rattle.std.specs.List.{find, flat_map, last_or, list_any, position, position_from}
+use Rattle.std.specs.List.{flat_map, last_or, list_any, position, position_from}
 use Rattle.std.specs.Option.{option_map, option_to_list}
 use Rattle.std.proofs.lemmas.Iterator.{YieldsList, YieldsList-from_slice}
 use Rattle.std.proofs.lemmas.Iterator.Adapters.{YieldsList-from_flatten, position_from-zero}
 use Rattle.std.proofs.lemmas.Iterator.Consumers.{YieldsList-from_shown}
 use Rattle.std.proofs.lemmas.Bool.{and_parts, both_ways, eqb-true}
 use Rattle.deferral.specs.declared.opened.Opened.{Opened}
-use Rattle.rulebook.specs.Lists.{first_of, some_of}
 use Rattle.rulebook.specs.Notebook.{among}
 use Rattle.ledger.specs.declared.held_day.HeldDay.{HeldDay}
 use Rattle.ledger.specs.HeldDay.{is_day, new_day, lowered}
@@ -23,12 +22,12 @@ use Rattle.ledger.specs.Packed.{in_front, packed}
 none_left : {A : Type 0} (done : Bool) (o : Option A) → MatchBool done (◌≡◌ {A = Option (Bor A)} None None) (None ≡ o) → length (cond done [] (option_to_list o)) ≡ 0
 none_left true o e = refl
 none_left false None e = refl
-none_left false (Some x) e = let z : ◌≡◌ {A = ℕ} 0 1 = cc in absurd (omega arith)
+none_left false (Some x) e = absurd cc
 
 one_left :
     {A : Type 0} (done after : Bool) (o left : Option A) (x : Bor A) → IsTrue after → MatchBool done (Some x ≡ None) (Some x.now ≡ o)
     → cond done [] (option_to_list o) ≡ x.now ∷ cond after [] (option_to_list left)
-one_left true after o left x t e = let z : ◌≡◌ {A = ℕ} 0 1 = cc in absurd (omega arith)
+one_left true after o left x t e = absurd cc
 one_left false true o left x t e = ap option_to_list (sym e)
 one_left false false o left x t e = absurd (both_ways false refl t)
 
@@ -54,18 +53,10 @@ row_yields becomes os source front back done is =
     (λ o j b. let held = is o j b in place_yields j o.now held.0 held.1)
     (YieldsList-from_slice os source) front back done
 
--- the rules' words for what a chain finds
-pub first_found : {X : Type 0} (p : X → Bool) (xs : List X) → find p xs ≡ first_of p xs
-first_found p [] = refl
-first_found p (x ∷ xs) = ap (cond (p x) (Some x)) (first_found p xs)
-
+-- the rules' word for what a chain finds
 pub among_found : (day : ℕ) (hs : List HeldDay) → list_any (is_day day) hs ≡ among (map (λ h. h.opened) hs) day
 among_found day [] = refl
-among_found day (h ∷ hs) = ap (λ b. is_day day h || b) (among_found day hs) ∙ or_is (is_day day h) _
-  where
-    or_is : (a b : Bool) → (a || b) ≡ cond a true b
-    or_is true b = refl
-    or_is false b = refl
+among_found day (h ∷ hs) = ap (λ b. is_day day h || b) (among_found day hs)
 
 pub last_found : {A : Type 0} (v : A → HeldDay) (xs : List A) (hs : List HeldDay) → map v xs ≡ hs → option_map v (last_or None xs) ≡ oldest hs
 last_found {A} v xs hs e = mapped None xs ∙ ap (last_or None) e ∙ among_them hs
@@ -91,20 +82,20 @@ slot_found day hs =
     from_slot k (h ∷ hs) = ap (cond (is_day day h) (Some k)) (from_slot (k + 1) hs)
 
 -- where the empty places come last, the latest day stands in the first
-none_behind : {X : Type 0} (os : List (Option X)) → not (some_of is_some os) ≡ true → flat_map option_to_list os ≡ []
+none_behind : {X : Type 0} (os : List (Option X)) → not (list_any is_some os) ≡ true → flat_map option_to_list os ≡ []
 none_behind [] e = refl
 none_behind (None ∷ os) e = none_behind os e
 none_behind (Some x ∷ os) e = absurd (both_ways false refl e)
 
 pub latest_stands : (os : List (Option HeldDay)) → packed os ≡ true → get_or os 0 None ≡ newest (flat_map option_to_list os)
 latest_stands [] p = refl
-latest_stands (None ∷ os) p = sym (ap newest (none_behind os (and_parts (eqb (suc (length os)) 3) (not (some_of is_some os)) p).1))
+latest_stands (None ∷ os) p = sym (ap newest (none_behind os (and_parts (eqb (suc (length os)) 3) (not (list_any is_some os)) p).1))
 latest_stands (Some h ∷ os) p = refl
 
 pub no_days : (os : List (Option HeldDay)) → packed os ≡ true → get_or os 0 None ≡ None → flat_map option_to_list os ≡ []
 no_days [] p e = refl
-no_days (None ∷ os) p e = none_behind os (and_parts (eqb (suc (length os)) 3) (not (some_of is_some os)) p).1
-no_days (Some h ∷ os) p e = let z : ◌≡◌ {A = ℕ} 0 1 = cc in absurd (omega arith)
+no_days (None ∷ os) p e = none_behind os (and_parts (eqb (suc (length os)) 3) (not (list_any is_some os)) p).1
+no_days (Some h ∷ os) p e = absurd cc
 
 -- one day more, in front of two of them, where so many records go
 abbrev pub row_with : HeldDay → ℕ → List (Option HeldDay) → List HeldDay

@@ -1,13 +1,12 @@
 -- The registers of a sheet follow the trades.
 use Rattle.std.proofs.Common.{◌≡◌, ℕ, ◌<◌, ◌≤◌, Bool, true, false, cond, not, ltb, List, [], ◌∷◌, ◌++◌, length, Some, None, filter, ap}
-use Rattle.std.specs.List.{AllByRecursion as All}
+use Rattle.std.specs.List.{list_any, AllByRecursion as All}
 use Rattle.identifier.specs.declared.isin.Isin.{Isin}
 use Rattle.register.specs.Lists.{Rising, has}
 use Rattle.report.specs.declared.figures.Sheet.{Sheet}
 use Rattle.report.specs.declared.report.Code.{Code}
 use Rattle.report.specs.Published.{makes_prices}
 use Rattle.rulebook.specs.declared.record.Record.{Record}
-use Rattle.rulebook.specs.Lists.{some_of}
 use Rattle.rulebook.specs.Notebook.{same_code}
 use Rattle.rulebook.specs.Sheets.{counts}
 use Rattle.rulebook.specs.Taken.{changed}
@@ -81,7 +80,7 @@ module _ (sheet : Sheet) (place : Isin → ℕ) (rs : List Record) (keys : Sheet
 
       module _ (keys' : SheetKeys) (memory' : SheetMemory) where
         -- the sheet comes to count it, and it is counted in
-        pub sheet_come : some_of (λ u. same_code u.code code) rs ≡ true → counts sheet t.state ≡ false → counts sheet (g t).state ≡ true → length rs ≤ length memory.prices.now → length rs ≤ length memory.executions.now → CountedIn keys memory keys' memory' (place (g t).report.isin) (g t) → SheetMirrors sheet place (changed code g rs) keys' memory'
+        pub sheet_come : list_any (λ u. same_code u.code code) rs ≡ true → counts sheet t.state ≡ false → counts sheet (g t).state ≡ true → length rs ≤ length memory.prices.now → length rs ≤ length memory.executions.now → CountedIn keys memory keys' memory' (place (g t).report.isin) (g t) → SheetMirrors sheet place (changed code g rs) keys' memory'
         sheet_come there uncounted counted room room₂ done = record {
           prices_mirror = come price_laws price_key sheet place rs _ prices_rise mirrors.prices_mirror code g t only _ _ there uncounted counted room done.prices_in;
           executions_mirror = come execution_laws execution_key sheet place rs _ executions_rise mirrors.executions_mirror code g t only _ _ there uncounted counted room₂ done.executions_in;

@@ -1,8 +1,8 @@
 -- One register of a sheet follows the trades.
-use Rattle.std.proofs.Common.{◌≡◌, ℕ, ◌<◌, ◌≤◌, Bool, true, false, cond, not, ltb, List, [], ◌∷◌, ◌++◌, length, Some, None, filter, Option, sym, ap, ◌∙◌, subst, arith}
+use Rattle.std.proofs.Common.{◌≡◌, ℕ, ◌<◌, ◌≤◌, Bool, true, false, cond, not, ltb, List, [], ◌∷◌, ◌++◌, length, Some, None, filter, Option, sym, ap, ◌∙◌, subst}
 use Rattle.std.proofs.ByRecursion.{All-weaker}
 use Rattle.std.proofs.lemmas.Bool.{cond-true, cond-false}
-use Rattle.std.specs.List.{AllByRecursion as All}
+use Rattle.std.specs.List.{list_any, AllByRecursion as All}
 use Rattle.identifier.specs.declared.isin.Isin.{Isin}
 use Rattle.register.specs.Laws.{Laws}
 use Rattle.register.specs.Lists.{Rising, from}
@@ -10,7 +10,6 @@ use Rattle.report.specs.declared.figures.Sheet.{Sheet}
 use Rattle.report.specs.declared.report.Code.{Code}
 use Rattle.report.specs.Published.{makes_prices}
 use Rattle.rulebook.specs.declared.record.Record.{Record}
-use Rattle.rulebook.specs.Lists.{some_of}
 use Rattle.rulebook.specs.Notebook.{same_code}
 use Rattle.rulebook.specs.Sheets.{counts}
 use Rattle.rulebook.specs.Taken.{changed}
@@ -22,8 +21,8 @@ use Rattle.ledger.proofs.Mirroring.{mirrors_added_without_key, mirrors_kept}
 -- a trade that is kept is kept under its key
 kept_is : {K : Type 0} (c m : Bool) (j k : K) → cond c (cond m (Some j) None) None ≡ Some k → j ≡ k
 kept_is true true j k e = cc
-kept_is true false j k e = let z : ◌≡◌ {A = ℕ} 0 1 = cc in absurd (omega arith)
-kept_is false m j k e = let z : ◌≡◌ {A = ℕ} 0 1 = cc in absurd (omega arith)
+kept_is true false j k e = absurd cc
+kept_is false m j k e = absurd cc
 
 module _ {K : Type 0} {lt : K → K → Bool} (laws : Laws lt) (key : ℕ → Record → K) (sheet : Sheet) (place : Isin → ℕ) (rs : List Record)
     (ks : List K) (rising : Rising lt ks) (m : Mirrors lt (sheet_key key sheet place) rs ks)
@@ -45,7 +44,7 @@ module _ {K : Type 0} {lt : K → K → Bool} (laws : Laws lt) (key : ℕ → Re
         (follows_added laws (sheet_key key sheet place) rs ks rising m places t (if_its t) (cond-true _ _ _ counted) room)
 
     module _ (code : Code) (g : Record → Record) (t : Record) (only : All (λ u. same_code u.code code ≡ true → u ≡ t) rs) (ks' : List K) where
-      pub come : (places : ℕ) → some_of (λ u. same_code u.code code) rs ≡ true → counts sheet t.state ≡ false → counts sheet (g t).state ≡ true → length rs ≤ places → ks' ≡ put_some lt (if_its (g t)) places ks → Mirrors lt (sheet_key key sheet place) (changed code g rs) ks'
+      pub come : (places : ℕ) → list_any (λ u. same_code u.code code) rs ≡ true → counts sheet t.state ≡ false → counts sheet (g t).state ≡ true → length rs ≤ places → ks' ≡ put_some lt (if_its (g t)) places ks → Mirrors lt (sheet_key key sheet place) (changed code g rs) ks'
       come places there uncounted counted room e =
           subst
           (Mirrors lt (sheet_key key sheet place) (changed code g rs))

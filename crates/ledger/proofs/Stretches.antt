@@ -1,5 +1,6 @@
 -- The keys of a stretch are those of the trades that make prices, of its day and security, on the sheet.
 use Rattle.std.proofs.Common.{◌≡◌, ℕ, ◌+◌, Bool, true, cond, not, ◌&&◌, eqb, List, Some, None, filter, sym, ap, ◌∙◌, arith}
+use Rattle.std.specs.List.{list_any}
 use Rattle.std.proofs.ByRecursion.{All-weaker}
 use Rattle.std.proofs.lemmas.Bool.{eqb-true}
 use Rattle.std.proofs.lemmas.Bool.Decides.{nat_tests}
@@ -10,7 +11,6 @@ use Rattle.register.specs.Order.{same}
 use Rattle.report.specs.declared.figures.Sheet.{Sheet}
 use Rattle.report.specs.Published.{makes_prices}
 use Rattle.rulebook.specs.declared.record.Record.{Record}
-use Rattle.rulebook.specs.Lists.{some_of}
 use Rattle.rulebook.specs.Notebook.{same_isin, of_day}
 use Rattle.rulebook.specs.Sheets.{counts, on_sheet, priced}
 use Rattle.ledger.specs.Mirrors.{is_key, Mirrors, sheet_key}
@@ -59,7 +59,7 @@ module _ {K : Type 0} {lt : K → K → Bool} (laws : Laws lt) (key : ℕ → Re
           in_its_stretch
           ∙ ap (λ b. within k && b) (sym (is_sheet_key (counts sheet t.state) (makes_prices t.report) (key (place t.report.isin) t) k))
 
-    pub stretch_has : (isin : Isin) (rs : List Record) (ks : List K) → Placed place isin security rs → Mirrors lt (sheet_key key sheet place) rs ks → (low high : K) → low ≡ start day security → high ≡ start day (security + 1) → (k : K) → has lt k (between lt low high ks) ≡ some_of (λ t. same lt (key security t) k) (priced (filter (on_sheet isin day sheet) rs))
+    pub stretch_has : (isin : Isin) (rs : List Record) (ks : List K) → Placed place isin security rs → Mirrors lt (sheet_key key sheet place) rs ks → (low high : K) → low ≡ start day security → high ≡ start day (security + 1) → (k : K) → has lt k (between lt low high ks) ≡ list_any (λ t. same lt (key security t) k) (priced (filter (on_sheet isin day sheet) rs))
     stretch_has isin rs ks placed mirrors low high l h k =
         ap (λ j. has lt k (between lt j high ks)) l
         ∙ ap (λ j. has lt k (between lt (start day security) j ks)) h

@@ -1,9 +1,10 @@
 -- The held days as a list, the latest first, and where a code's trade stands.
 use Rattle.std.specs.Prelude.{ℕ, ◌+◌, ◌-◌, cond, List, [], ◌∷◌, map, flat_map, position, Some, None, Option, ◌==◌}
+use Rattle.std.specs.List.{find}
 use Rattle.std.specs.Option.{option_to_list}
 use Rattle.deferral.specs.declared.opened.Opened.{Opened}
 use Rattle.report.specs.declared.report.Code.{Code}
-use Rattle.rulebook.specs.Lists.{first_of, and_then}
+use Rattle.rulebook.specs.Lists.{and_then}
 use Rattle.ledger.specs.declared.days.Days.{Days}
 use Rattle.ledger.specs.declared.held_day.HeldDay.{HeldDay}
 use Rattle.ledger.specs.HeldDay.{is_day, place_in, code_in, has_next, with_next, new_day, lowered}
@@ -30,7 +31,7 @@ slot_of day os = position (λ o. o.day == day) os
 
 -- of days of which the latest is first
 abbrev pub index_in : List HeldDay → Code → Option ℕ
-index_in hs code = and_then (first_of (is_day code.day) hs) (place_in code.serial)
+index_in hs code = and_then (find (is_day code.day) hs) (place_in code.serial)
 
 abbrev pub index_of : Days → Code → Option ℕ
 index_of d code = index_in (held_days d) code

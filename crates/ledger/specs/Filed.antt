@@ -1,9 +1,8 @@
 -- Records filed in the order of their codes, so that a code is an index.
 use Rattle.std.specs.Prelude.{◌≡◌, ℕ, ◌<◌, false, List, [], ◌∷◌, ◌++◌, map, length, get_or, Some, None, Option, slice_index_or, slice_set}
-use Rattle.std.specs.List.{AllByRecursion}
+use Rattle.std.specs.List.{range_with_len, find, AllByRecursion}
 use Rattle.report.specs.declared.report.Code.{Code}
 use Rattle.rulebook.specs.declared.record.Record.{Record}
-use Rattle.rulebook.specs.Lists.{first_of, numbers}
 use Rattle.rulebook.specs.Notebook.{same_code}
 use Rattle.rulebook.specs.Taken.{changed}
 use Rattle.ledger.specs.declared.held_day.HeldDay.{HeldDay}
@@ -11,7 +10,7 @@ use Rattle.ledger.specs.HeldDay.{code_in}
 
 -- the codes that a day has given out, in the order of their serials
 abbrev pub codes_of : HeldDay → List Code
-codes_of h = map (code_in h) (numbers 1 h.taken)
+codes_of h = map (code_in h) (range_with_len 1 h.taken)
 
 -- those of all days, of which the latest is first: the oldest day's codes come first
 abbrev pub all_codes : List HeldDay → List Code
@@ -51,13 +50,13 @@ pub record Filed (hs : List HeldDay) (rs : List Record) : Type 0 where
 pub record Stands (rs : List Record) (code : Code) (i : ℕ) : Type 0 where
   pub within : i < length rs
   pub has_code : (d : Record) → (get_or rs i d).code ≡ code
-  pub found : (d : Record) → first_of (λ t. same_code t.code code) rs ≡ Some (slice_index_or rs i d)
+  pub found : (d : Record) → find (λ t. same_code t.code code) rs ≡ Some (slice_index_or rs i d)
   pub changes : (f : Record → Record) (d : Record) → changed code f rs ≡ slice_set rs i (f (slice_index_or rs i d))
 
 -- no trade has the code
 pub record Missing (rs : List Record) (code : Code) : Type 0 where
   pub none : AllByRecursion (λ t. same_code t.code code ≡ false) rs
-  pub found : first_of (λ t. same_code t.code code) rs ≡ None
+  pub found : find (λ t. same_code t.code code) rs ≡ None
   pub changes : (f : Record → Record) → changed code f rs ≡ rs
 
 -- what an index of a code, or that there is none, says of the records

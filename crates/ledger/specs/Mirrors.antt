@@ -1,5 +1,6 @@
 -- Registers that hold the keys of some trades: of every trade that is kept under a key, that key, and no other.
 use Rattle.std.specs.Prelude.{◌≡◌, ℕ, Bool, false, cond, List, Some, None, Option}
+use Rattle.std.specs.List.{list_any}
 use Rattle.identifier.specs.declared.isin.Isin.{Isin}
 use Rattle.register.specs.declared.execution.ExecutionKey.{ExecutionKey}
 use Rattle.register.specs.declared.price.PriceKey.{PriceKey}
@@ -9,7 +10,6 @@ use Rattle.register.specs.Order.{same}
 use Rattle.report.specs.declared.figures.Sheet.{Sheet}
 use Rattle.report.specs.Published.{makes_prices}
 use Rattle.rulebook.specs.declared.record.Record.{Record}
-use Rattle.rulebook.specs.Lists.{some_of}
 use Rattle.rulebook.specs.Notebook.{waits}
 use Rattle.rulebook.specs.Sheets.{counts}
 use Rattle.ledger.specs.Keys.{price_key, execution_key, publication_key}
@@ -21,7 +21,7 @@ is_key lt (Some j) k = same lt j k
 
 -- a key is held where a trade is kept under it
 abbrev pub Mirrors : {K : Type 0} → (K → K → Bool) → (Record → Option K) → List Record → List K → Type 0
-Mirrors {K} lt f rs ks = (k : K) → has lt k ks ≡ some_of (λ t. is_key lt (f t) k) rs
+Mirrors {K} lt f rs ks = (k : K) → has lt k ks ≡ list_any (λ t. is_key lt (f t) k) rs
 
 -- a trade that makes prices is kept under a key
 abbrev pub if_priced : {K : Type 0} → (Record → K) → Record → Option K

@@ -1,13 +1,12 @@
 -- The totals of the listed securities, as they are written and as they are held to the trades.
 use Rattle.std.specs.Prelude.{◌≡◌, ℕ, ◌^◌, ◌<◌, ◌≤◌, true, false, List, [], ◌∷◌, map, length, get_or, is_some, filter, slice_index, slice_index_or, slice_set}
-use Rattle.std.specs.List.{AllByRecursion}
+use Rattle.std.specs.List.{find, AllByRecursion}
 use Rattle.report.specs.declared.figures.Sheet.{Sheet}
 use Rattle.report.specs.declared.figures.Sheet.TheVariants.{Full, Public}
 use Rattle.report.specs.declared.report.Code.{Code}
 use Rattle.report.specs.declared.report.Report.{Report}
 use Rattle.report.specs.declared.security.Security.{Security}
 use Rattle.rulebook.specs.declared.record.Record.{Record}
-use Rattle.rulebook.specs.Lists.{first_of}
 use Rattle.rulebook.specs.Notebook.{same_isin, same_code}
 use Rattle.rulebook.specs.Sheets.{on_sheet}
 use Rattle.ledger.specs.declared.listed.Listed.{Listed}
@@ -119,4 +118,4 @@ pub record OnlyOne (code : Code) (xs : List Record) (t : Record) (ys : List Reco
 
 -- the security of each trade is listed
 abbrev pub EachListed : List Security → List Record → Type 0
-EachListed ss rs = AllByRecursion (λ t. is_some (first_of (λ s. same_isin s.isin t.report.isin) ss) ≡ true) rs
+EachListed ss rs = AllByRecursion (λ t. is_some (find (λ s. same_isin s.isin t.report.isin) ss) ≡ true) rs

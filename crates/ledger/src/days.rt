@@ -1,5 +1,6 @@
 //! The held days.
-ghost use Rattle.std.specs.Prelude.{◌≡◌, true};
+ghost use Rattle.std.specs.Bool.{IsTrue};
+ghost use Rattle.std.specs.Prelude.{◌≡◌};
 ghost use Rattle.ledger.specs.Packed.{packed};
 
 use super::held_day::HeldDay;
@@ -10,13 +11,13 @@ use report::report::Code;
 #[derive(Clone, Copy)]
 pub struct Days {
     pub held: [Option<HeldDay>; 3],
-    ghost packed: { packed held ≡ true },
+    ghost packed: { IsTrue (packed held) },
 }
 
 impl Days {
     ghost use Rattle.std.specs.Prelude.{◌+◌, ◌^◌, ◌<◌, List, [], ◌∷◌, length, map, take, Some};
     ghost use Rattle.rulebook.specs.declared.record.Record.{Record as Trade};
-    ghost use Rattle.rulebook.specs.Lists.{first_of};
+    ghost use Rattle.std.specs.List.{find};
     ghost use Rattle.rulebook.specs.Notebook.{among};
     ghost use Rattle.std.specs.Option.{option_map};
     ghost use Rattle.ledger.specs.HeldDay.{is_day, lowered};
@@ -46,7 +47,7 @@ impl Days {
 
     /// The held day of that number.
     pub fn find(&self, day: u32) -> Option<HeldDay>
-        ensures { result ≡ first_of (is_day day) (held_days self.now) }
+        ensures { result ≡ find (is_day day) (held_days self.now) }
     {
         self.held
             .iter()
@@ -108,6 +109,7 @@ impl Days {
         ensures held { held_days self.new ≡ counted (held_days self.old) }
         ensures days { days_of self.new ≡ days_of self.old }
     {
+        // `as_mut()?` would keep the lent day over the call, which no proof covers yet.
         match &mut self.held[0] {
             Some(latest) => latest.take_next(),
             None => None,

@@ -18,6 +18,7 @@ pub struct Listed {
     pub slots: [Slot; 3],
 }
 
+// Within a listed security its place has no meaning, so that its `totals` and `write` take slot and sheet alone.
 /// Whose totals: those of the security at a place, in the slot of a held day, on a sheet.
 #[derive(Clone, Copy)]
 pub struct Account {
@@ -72,6 +73,8 @@ pub fn place_of(listed: &[Listed], isin: &Isin) -> Option<usize>
     listed.iter().position(|one| one.security.isin.same(isin))
 }
 
+// These calls could not fail and do not: where there is no such place or slot, there are no totals, and nothing is counted.
+
 /// The totals of an account; none where there is no such place or slot.
 pub fn totals_at(listed: &[Listed], at: Account) -> Totals
     ensures { result ≡ at_slot listed.now at.place at.slot at.sheet }
@@ -121,7 +124,7 @@ pub fn open_slot(listed: &mut [Listed], count: usize)
 }
 
 /// Lists a security: over the one of its ISIN, whose totals stay, or behind the last with totals of none.
-/// Where there is no place, nothing changes. Answers how many are listed then.
+/// Where there is no place, nothing changes: the call could not fail and does not. Answers how many are listed then.
 pub fn list(listed: &mut [Listed], count: usize, security: &Security) -> usize
     ensures listing { count ≤ length listed.old → Listing security.now count listed.old listed.new result }
     ensures past { length listed.old < count → (listed.new ≡ listed.old) × (result ≡ count) }

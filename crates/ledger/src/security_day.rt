@@ -58,8 +58,8 @@ impl SecurityDay {
         Stretch {
             low: K::start(self),
             high: K::start(SecurityDay {
-                day: self.day,
                 security: self.security.saturating_add(1),
+                ..self
             }),
         }
     }

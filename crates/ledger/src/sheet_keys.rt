@@ -26,6 +26,8 @@ pub struct SheetMemory<'a> {
 }
 
 // Any memory may come in any call, so that the registers stand over it is a premise of each clause and no invariant.
+// What `put` and `take_out` answer is known from what the registers hold, as each clause says it: nothing is refused that the sheet counts.
+// Each call is made once for each register: a helper over any kind of key would say each clause of the register again, for two calls.
 impl SheetKeys {
     /// Registers that keep no key.
     pub fn new() -> SheetKeys

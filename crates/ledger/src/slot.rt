@@ -1,4 +1,6 @@
 //! The totals of a held day.
+//!
+//! `match sheet` in `on` and `write` is the one place that chooses a sheet's totals.
 ghost use Rattle.std.specs.Prelude.{◌≡◌};
 ghost use Rattle.ledger.specs.Totalled.{no_slot, on, written_on};
 

@@ -27,8 +27,8 @@ impl Totals {
     {
         Totals {
             number: 1,
-            volume: report.quantity as u64,
-            turnover: report.price as u64 * report.quantity as u64,
+            volume: u64::from(report.quantity),
+            turnover: u64::from(report.price) * u64::from(report.quantity),
         }
     }
 

@@ -1,4 +1,8 @@
 //! What can be wrong with a line of input.
+ghost use Rattle.std.specs.Prelude.{◌≡◌, Some};
+ghost use Rattle.publication_time.specs.declared.fault.Fault.TheVariants.{Flawed};
+ghost use Rattle.publication_time.specs.Told.{fault_text};
+
 use reading::flaw::Flaw;
 use std::fmt;
 
@@ -12,16 +16,22 @@ pub enum Fault {
 }
 
 impl From<Flaw> for Fault {
+    ghost from_gives = { λ flaw fault. fault ≡ Flawed flaw };
+
     fn from(flaw: Flaw) -> Fault {
         Fault::Flawed(flaw)
     }
 }
 
 impl fmt::Display for Fault {
+    ghost output = { λ fault. Some (fault_text fault) };
+
     fn fmt<W: fmt::Write>(&self, f: &mut fmt::Formatter<W>) -> fmt::Result {
         match self {
-            Fault::NotText => f.write_str("it is not text"),
-            Fault::Flawed(flaw) => write!(f, "{flaw}"),
+            Fault::NotText => write!(f, "it is not text"),
+            Fault::Flawed(told) => write!(f, "{told}"),
         }
     }
 }
+
+impl std::error::Error for Fault {}

@@ -39,8 +39,8 @@ fn answer<W: Write>(out: &mut W, number: u64, line: &[u8]) -> io::Result<()> {
 fn main(rt: HostRuntime) -> io::Result<()> {
     let mut out = BufWriter::new(rt.alloc(), rt.stdout())?;
     let lines = BufReader::new(rt.alloc(), rt.stdin())?.split(rt.alloc(), LINE_END);
-    for (number, line) in (1..u64::MAX).zip(lines) {
-        answer(&mut out, number, &line?)?;
+    for (before, line) in lines.enumerate() {
+        answer(&mut out, (before as u64).saturating_add(1), &line?)?;
     }
     out.flush()
 }

@@ -4,3 +4,4 @@ mod Requests
 mod Spelling
 mod Told
 mod Values
+pub mod InTurn

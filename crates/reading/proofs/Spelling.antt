@@ -23,10 +23,10 @@ by_flaws empty digits zero small value =
 
 -- a number has none of them
 flawless : (empty digits zero small : Bool) (value n : ℕ) → by_flaws empty digits zero small value ≡ Ok n → (empty ≡ false) × (digits ≡ true) × (zero ≡ false) × (small ≡ true) × (value ≡ n)
-flawless true digits zero small value n h = absurd (grind arith)
-flawless false false zero small value n h = absurd (grind arith)
-flawless false true true small value n h = absurd (grind arith)
-flawless false true false false value n h = absurd (grind arith)
+flawless true digits zero small value n h = cc
+flawless false false zero small value n h = cc
+flawless false true true small value n h = cc
+flawless false true false false value n h = cc
 flawless false true false true value n h = (refl, refl, refl, refl, cc)
 
 -- what has none of them is a number

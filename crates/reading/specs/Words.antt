@@ -1,6 +1,5 @@
 -- The words of a line: what stands between its single spaces.
-use Rattle.std.specs.Prelude.{ℕ, Bool, List, [], Some, None, Option, ◌==◌}
-use Rattle.std.specs.Borrow.{Bor}
+use Rattle.std.specs.Prelude.{ℕ, Bool, List, ◌==◌}
 use Rattle.std.specs.List.{slice_split}
 
 abbrev pub is_space : ℕ → Bool
@@ -9,8 +8,3 @@ is_space c = c == 32
 -- each space ends a word and begins another, so there is one word more than spaces, and a word may be empty
 unfoldable pub words_of : List ℕ → List (List ℕ)
 words_of line = slice_split is_space line
-
--- a word that may not be there; where it is not, it is as an empty one
-abbrev pub word_of : Option (Bor (List ℕ)) → List ℕ
-word_of None = []
-word_of (Some word) = word.now

@@ -66,3 +66,5 @@ impl fmt::Display for Flaw {
         }
     }
 }
+
+impl std::error::Error for Flaw {}

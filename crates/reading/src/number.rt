@@ -3,6 +3,7 @@ ghost use Rattle.std.specs.Prelude.{◌≡◌, ◌+◌, ◌*◌};
 ghost use Rattle.std.specs.List.{list_all};
 ghost use Rattle.reading.specs.Number.{is_digit, digit_of, decimal_value, leads_with_zero, fitting, number_read};
 
+// No `Display`: a reader tells it as a `Flaw` of a field, or as a `Fault`.
 /// Why a word is not a number.
 #[derive(Clone, Copy, PartialEq, Eq, Debug)]
 pub enum NumberFlaw {
@@ -20,7 +21,7 @@ pub enum NumberFlaw {
 fn is_digit(byte: u8) -> bool
     ensures { result ≡ is_digit byte }
 {
-    matches!(byte, b'0'..=b'9')
+    byte.is_ascii_digit()
 }
 
 /// Is each byte a digit?
@@ -34,7 +35,7 @@ fn has_only_digits(word: &[u8]) -> bool
 fn leads_with_zero(word: &[u8]) -> bool
     ensures { result ≡ leads_with_zero word.now }
 {
-    word.len() > 1 && word[0] == b'0'
+    matches!(word, [b'0', _, ..])
 }
 
 /// The value with one more digit on its right, where it fits.

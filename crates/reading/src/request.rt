@@ -17,6 +17,7 @@ const LAST_YEAR: u64 = 2199;
 /// The mark that asks for days.
 const DAYS: &[u8] = b"--days";
 
+// Beside `trading_year`'s own: `Request` and `Fault` here are of numbers of 64 bits without signs, that program's of the years it reads.
 /// What is to be printed.
 #[derive(Clone, Copy, PartialEq, Eq, Debug)]
 pub enum Request {
@@ -57,6 +58,8 @@ impl fmt::Display for Fault {
         }
     }
 }
+
+impl std::error::Error for Fault {}
 
 /// Reads a year of the calendar by rule.
 fn read_year(word: &[u8]) -> Result<u32, Fault>

@@ -5,10 +5,10 @@ use std::test::Fail;
 
 /// Reads the words as a request.
 fn request(heap: Global, words: &[&str]) -> Result<Result<Request, Fault>, Fail> {
-    let mut texts = Vec::new(heap);
-    for word in words {
-        texts.push(String::from_str(heap, word)?)?;
-    }
+    let texts: Vec<String> = words
+        .iter()
+        .map(|word| String::from_str(heap, word))
+        .try_collect(heap)?;
     Ok(read_request(texts.as_slice()))
 }
 

@@ -5,6 +5,7 @@ pub mod Fields
 pub mod Keys
 pub mod Kept
 pub mod Answers
+pub mod Words
 pub mod Calls
 pub mod Laws
 pub mod Orders

@@ -19,6 +19,7 @@ impl Key for ExecutionKey {
 
     ghost ordered = { execution_ordered };
 
+    // The derived order under the trait's own word, whose law says more than `Ord`'s.
     fn before(self, other: ExecutionKey) -> bool {
         self < other
     }

@@ -106,7 +106,7 @@ impl<K: Key> Register<K> {
         let keys = self.keys(memory);
         let count = keys.len();
         let at = gap(keys, key, memory.len())?;
-        open(memory, at, count, key);
+        open(&mut memory[..count + 1], at, key);
         *self = Register::keeping(count + 1);
         Ok(())
     }
@@ -118,8 +118,8 @@ impl<K: Key> Register<K> {
     {
         let keys = self.keys(memory);
         let count = keys.len();
-        let at = find(keys, key).ok().ok_or(Absent)?;
-        close(memory, at, at + 1, count);
+        let at = find(keys, key).map_err(|_| Absent)?;
+        close(&mut memory[..count], at, at + 1);
         *self = Register::keeping(count - 1);
         Ok(())
     }
@@ -133,7 +133,7 @@ impl<K: Key> Register<K> {
         let count = keys.len();
         let gone = place(keys, low);
         if gone > 0 {
-            close(memory, 0, gone, count);
+            close(&mut memory[..count], 0, gone);
             *self = Register::keeping(count - gone);
         }
         gone

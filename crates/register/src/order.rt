@@ -3,7 +3,7 @@ ghost use Rattle.std.specs.Prelude.{◌≡◌, Bool};
 ghost use Rattle.register.specs.Order.{Total};
 
 /// A key of a register: its kind has a total order.
-// `Ord` would say less, since it may hold keys for equal that are not, and ask more of a kind of key.
+// `Ord` would say less, since it may hold keys for equal that are not.
 pub trait Key: Copy {
     ghost below: { Self → Self → Bool };
 

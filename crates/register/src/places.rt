@@ -1,4 +1,6 @@
 //! Where a key stands among keys that rise, found by halving.
+//!
+//! The memory is lent, so that its keys rise is a premise of each clause, and no type can hold it.
 ghost use Rattle.std.specs.Prelude.{◌≡◌, ◌≤◌, ◌<◌, length, IfOk, MatchResult, Err};
 ghost use Rattle.std.specs.List.Sorted.{IsSearchInRange};
 ghost use Rattle.register.specs.Answers.{put_answer};
@@ -20,7 +22,7 @@ pub(crate) fn place<K: Key>(keys: &[K], key: K) -> usize
     )
 }
 
-// The place where a key stands, or else where it would.
+// The place where a key stands, or else where it would. It stands on `partition_point`: a key has an order and no `Ordering`.
 pub(crate) fn find<K: Key>(keys: &[K], key: K) -> Result<usize, usize>
     ensures within { IsSearchInRange result (length keys.now) }
     ensures found { Rising K.below keys.now → Spotted K.below key keys.now result }
@@ -37,10 +39,9 @@ pub(crate) fn gap<K: Key>(keys: &[K], key: K, places: usize) -> Result<usize, Pu
     ensures within { IfOk result (λ at. (at ≤ length keys.now) × (length keys.now < places)) }
     ensures found { Rising K.below keys.now → MatchResult result (Gap K.below key keys.now) (λ e. Err e ≡ put_answer K.below key keys.now places) }
 {
-    let at = find(keys, key).err().ok_or(PutError::Present)?;
-    if keys.len() < places {
-        Ok(at)
-    } else {
-        Err(PutError::Full)
+    match find(keys, key) {
+        Ok(_) => Err(PutError::Present),
+        Err(_) if keys.len() >= places => Err(PutError::Full),
+        Err(at) => Ok(at),
     }
 }

@@ -19,6 +19,7 @@ impl Key for PriceKey {
 
     ghost ordered = { price_ordered };
 
+    // The derived order under the trait's own word, whose law says more than `Ord`'s.
     fn before(self, other: PriceKey) -> bool {
         self < other
     }

@@ -18,6 +18,7 @@ impl Key for PublicationKey {
 
     ghost ordered = { publication_ordered };
 
+    // The derived order under the trait's own word, whose law says more than `Ord`'s.
     fn before(self, other: PublicationKey) -> bool {
         self < other
     }

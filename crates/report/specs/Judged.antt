@@ -1,5 +1,5 @@
 -- The grounds against a report that need only the report and its security.
-use Rattle.std.specs.Prelude.{ℕ, ◌+◌, Bool, true, false, cond, not, ◌&&◌, List, [], ◌∷◌, Some, None, Option, ◌==◌, nat_lt}
+use Rattle.std.specs.Prelude.{ℕ, ◌+◌, Bool, true, false, cond, not, ◌&&◌, List, [], ◌∷◌, ◌++◌, Some, None, Option, ◌==◌, nat_lt}
 use Rattle.refusal.specs.declared.Refusal.TheVariants.{Suspended, OtherSegment, TooManyFlags, WrongCounterparty, NegotiatedNotLiquid, NegotiatedSuspended, IlliquidButLiquid, RisklessPrincipalAsAgent}
 use Rattle.refusal.specs.Grounds.{Ground}
 use Rattle.identifier.specs.Counterparty.{is_right}
@@ -46,12 +46,17 @@ early_grounds r s =
     ∷ record { there = not (segment_number r.segment == segment_number s.segment); refusal = OtherSegment }
     ∷ size_ground r.price r.quantity ∷ turnover_ground r.price r.quantity ∷ []
 
+-- the grounds against a waiver
+abbrev pub waiver_grounds : Option Waiver → Security → List Ground
+waiver_grounds w s =
+    record { there = waiver_number w == 1 && not s.liquid; refusal = NegotiatedNotLiquid }
+    ∷ record { there = waiver_number w == 1 && s.nliq_suspended; refusal = NegotiatedSuspended }
+    ∷ record { there = waiver_number w == 2 && s.liquid; refusal = IlliquidButLiquid } ∷ []
+
 -- and those that stand behind it
 abbrev pub late_grounds : Report → Security → List Ground
 late_grounds r s =
     record { there = nat_lt 3 (flags_set r.flags); refusal = TooManyFlags }
     ∷ record { there = not (is_right r.counterparty); refusal = WrongCounterparty }
-    ∷ record { there = waiver_number r.waiver == 1 && not s.liquid; refusal = NegotiatedNotLiquid }
-    ∷ record { there = waiver_number r.waiver == 1 && s.nliq_suspended; refusal = NegotiatedSuspended }
-    ∷ record { there = waiver_number r.waiver == 2 && s.liquid; refusal = IlliquidButLiquid }
-    ∷ record { there = r.flags.rp && as_agent r.capacity; refusal = RisklessPrincipalAsAgent } ∷ []
+    ∷ waiver_grounds r.waiver s
+    ++ record { there = r.flags.rp && as_agent r.capacity; refusal = RisklessPrincipalAsAgent } ∷ []

@@ -7,6 +7,7 @@ pub enum Sheet {
     Public,
 }
 
+// The four prices are four fields, each of which a sheet may lack, as the exchange reads them.
 /// Number, volume and turnover of the trades, and four prices, which may be none.
 #[derive(Clone, Copy, PartialEq, Eq, Debug)]
 pub struct Figures {

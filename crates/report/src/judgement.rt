@@ -1,7 +1,8 @@
 //! A report judged against its security.
 ghost use Rattle.std.specs.Prelude.{◌≡◌};
+ghost use Rattle.std.specs.List.{count_by};
 ghost use Rattle.refusal.specs.Grounds.{first_ground, unless};
-ghost use Rattle.report.specs.Judged.{segment_number, flags_set, early_grounds, late_grounds};
+ghost use Rattle.report.specs.Judged.{segment_number, flags_set, early_grounds, waiver_grounds, late_grounds};
 
 use super::report::{Capacity, Flags, Report, Waiver};
 use super::security::{Security, Segment};
@@ -21,18 +22,19 @@ impl Segment {
     }
 }
 
+/// How many of six are true.
+fn how_many(six: &[bool; 6]) -> u8
+    ensures { result ≡ count_by (λ set. set) six.now }
+{
+    six.iter().filter(|set| **set).count() as u8
+}
+
 impl Flags {
     /// How many of the flags are set.
     pub fn count(&self) -> u8
         ensures { result ≡ flags_set self.now }
     {
-        // Written out, since of a sum over an array of the six it is not proved that it fits a byte.
-        self.ah as u8
-            + self.bb as u8
-            + self.cp as u8
-            + self.lt as u8
-            + self.rp as u8
-            + self.ss as u8
+        how_many(&[self.ah, self.bb, self.cp, self.lt, self.rp, self.ss])
     }
 }
 
@@ -49,6 +51,18 @@ pub fn check_early(report: &Report, security: &Security) -> Result<(), Refusal>
     check_sizes(u64::from(report.price), u64::from(report.quantity))
 }
 
+/// Refuses a waiver that does not suit the security.
+fn check_waiver(waiver: Option<Waiver>, security: &Security) -> Result<(), Refusal>
+    ensures { result ≡ unless (first_ground (waiver_grounds waiver security.now)) tt }
+{
+    match waiver {
+        Some(Waiver::Nliq) if !security.liquid => Err(Refusal::NegotiatedNotLiquid),
+        Some(Waiver::Nliq) if security.nliq_suspended => Err(Refusal::NegotiatedSuspended),
+        Some(Waiver::Oilq) if security.liquid => Err(Refusal::IlliquidButLiquid),
+        _ => Ok(()),
+    }
+}
+
 /// Refuses what is judged after the execution moment: flags, counterparty, waiver, riskless principal as agent.
 pub fn check_late(report: &Report, security: &Security) -> Result<(), Refusal>
     ensures { result ≡ unless (first_ground (late_grounds report.now security.now)) tt }
@@ -57,13 +71,9 @@ pub fn check_late(report: &Report, security: &Security) -> Result<(), Refusal>
         return Err(Refusal::TooManyFlags);
     }
     report.counterparty.check()?;
-    match report.waiver {
-        Some(Waiver::Nliq) if !security.liquid => Err(Refusal::NegotiatedNotLiquid),
-        Some(Waiver::Nliq) if security.nliq_suspended => Err(Refusal::NegotiatedSuspended),
-        Some(Waiver::Oilq) if security.liquid => Err(Refusal::IlliquidButLiquid),
-        _ if report.flags.rp && report.capacity == Capacity::Aotc => {
-            Err(Refusal::RisklessPrincipalAsAgent)
-        }
-        _ => Ok(()),
+    check_waiver(report.waiver, security)?;
+    if report.flags.rp && report.capacity == Capacity::Aotc {
+        return Err(Refusal::RisklessPrincipalAsAgent);
     }
+    Ok(())
 }

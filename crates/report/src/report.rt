@@ -27,7 +27,7 @@ pub enum Waiver {
 }
 
 /// The exchange's own flags: after hours, broker to broker, connected party, late, riskless principal, special settlement.
-#[derive(Clone, Copy, PartialEq, Eq, Debug)]
+#[derive(Clone, Copy, PartialEq, Eq, Debug, Default)]
 pub struct Flags {
     pub ah: bool,
     pub bb: bool,

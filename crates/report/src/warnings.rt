@@ -24,9 +24,9 @@ pub fn warnings_of(report: &Report, security: &Security, expand: u8) -> Warnings
     let tolerated = u64::from(security.tolerance) * u64::from(factor);
     let reference = u64::from(security.reference);
     let price = u64::from(report.price);
-    let far = price < reference.saturating_sub(tolerated) || price > reference + tolerated;
+    let usual = reference.saturating_sub(tolerated)..=reference + tolerated;
     Warnings {
-        price: reference != 0 && far,
+        price: reference != 0 && !usual.contains(&price),
         quantity: report.quantity > security.cap,
     }
 }

@@ -1,5 +1,5 @@
 //! Each ground at its edge, and the first of two.
-use crate::samples::{no_flags, report, security};
+use crate::samples::{report, security};
 use identifier::{Counterparty, Isin};
 use refusal::Refusal;
 use report::judgement::{check_early, check_late};
@@ -53,6 +53,10 @@ fn listings(rt: HostRuntime) {
         }),
         Err(6)
     );
+}
+
+#[test]
+fn numbers_of_a_listing(rt: HostRuntime) {
     assert_eq!(rt;
         listing(Security {
             daily: 999_999_999_999,
@@ -112,6 +116,10 @@ fn before_the_execution_moment(rt: HostRuntime) {
         ),
         Err(14)
     );
+}
+
+#[test]
+fn sizes(rt: HostRuntime) {
     assert_eq!(rt;
         early(
             Report {
@@ -163,7 +171,7 @@ fn flags_and_counterparties(rt: HostRuntime) {
         ah: true,
         bb: true,
         ss: true,
-        ..no_flags()
+        ..Flags::default()
     };
     assert_eq!(rt;
         late(
@@ -203,14 +211,14 @@ fn flags_and_counterparties(rt: HostRuntime) {
 
 #[test]
 fn waivers(rt: HostRuntime) {
-    let negotiated = Report {
+    let trade = Report {
         waiver: Some(Waiver::Nliq),
         ..report()
     };
-    assert_eq!(rt; late(negotiated, security()), Ok(()));
+    assert_eq!(rt; late(trade, security()), Ok(()));
     assert_eq!(rt;
         late(
-            negotiated,
+            trade,
             Security {
                 liquid: false,
                 nliq_suspended: true,
@@ -221,7 +229,7 @@ fn waivers(rt: HostRuntime) {
     );
     assert_eq!(rt;
         late(
-            negotiated,
+            trade,
             Security {
                 nliq_suspended: true,
                 ..security()
@@ -229,6 +237,10 @@ fn waivers(rt: HostRuntime) {
         ),
         Err(21)
     );
+}
+
+#[test]
+fn waivers_not_negotiated(rt: HostRuntime) {
     let illiquid = Report {
         waiver: Some(Waiver::Oilq),
         ..report()
@@ -262,7 +274,7 @@ fn riskless_principal(rt: HostRuntime) {
     let riskless = Report {
         flags: Flags {
             rp: true,
-            ..no_flags()
+            ..Flags::default()
         },
         ..report()
     };

@@ -21,17 +21,6 @@ pub fn security() -> Security {
     }
 }
 
-pub fn no_flags() -> Flags {
-    Flags {
-        ah: false,
-        bb: false,
-        cp: false,
-        lt: false,
-        rp: false,
-        ss: false,
-    }
-}
-
 pub fn report() -> Report {
     Report {
         member: Member { bytes: *b"ABCDE" },
@@ -49,7 +38,7 @@ pub fn report() -> Report {
         benc: false,
         sdiv: false,
         waiver: None,
-        flags: no_flags(),
+        flags: Flags::default(),
         counterparty: Counterparty::Lei(*b"0000000000000000A089"),
     }
 }

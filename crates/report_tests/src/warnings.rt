@@ -63,7 +63,8 @@ fn quantities(rt: HostRuntime) {
 }
 
 #[test]
-fn deferral_and_prices(rt: HostRuntime) {
+fn deferral(rt: HostRuntime) {
+    assert_eq!(rt; report().trade(&security()).quantity, 1_000);
     assert!(rt; report().may_defer());
     assert!(rt;
         !Report {
@@ -86,6 +87,10 @@ fn deferral_and_prices(rt: HostRuntime) {
         }
         .may_defer()
     );
+}
+
+#[test]
+fn what_makes_prices(rt: HostRuntime) {
     assert!(rt;
         report().makes_prices()
             && Report {
@@ -115,5 +120,4 @@ fn deferral_and_prices(rt: HostRuntime) {
         }
         .makes_prices()
     );
-    assert_eq!(rt; report().trade(&security()).quantity, 1_000);
 }

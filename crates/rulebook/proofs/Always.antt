@@ -1,5 +1,5 @@
 -- What every call that is taken keeps holds after every lawful history.
-use Rattle.std.proofs.Common.{◌≡◌, false, [], ◌∷◌, is_some, Some, None, Option, sym, refl, ◌∙◌}
+use Rattle.std.proofs.Common.{◌≡◌, false, [], ◌∷◌, is_some, None, Option, sym, refl, ◌∙◌, ◌++◌, rules}
 use Rattle.std.proofs.lemmas.Bool.{cond_both}
 use Rattle.rulebook.specs.declared.call.Call.{Call}
 use Rattle.rulebook.specs.Notebook.{Rules}
@@ -8,8 +8,11 @@ use Rattle.rulebook.specs.Grounds.{ground}
 use Rattle.rulebook.specs.Histories.{History, step, fed, Rightly}
 
 pub none_from : {X : Type 0} (x : Option X) → is_some x ≡ false → x ≡ None
-none_from None e = refl
-none_from (Some r) e = absurd cc
+none_from x e = search rules
+
+pub fed_append : (rules : Rules) (d : Desk) (g h : History) → fed rules d (g ++ h) ≡ fed rules (fed rules d g) h
+fed_append rules d [] h = refl
+fed_append rules d (e ∷ es) h = fed_append rules (step rules d e) es h
 
 module _ (rules : Rules) (P : Desk → Type 0) (keeps : (d : Desk) (call : Call) → ground rules d call ≡ None → P d → P (taken rules d call)) where
   pub always : (d : Desk) (h : History) → Rightly rules d h → P d → P (fed rules d h)

@@ -1,11 +1,10 @@
 -- Codes that count each day's trades are all different.
 use Rattle.std.proofs.Common.{◌≡◌, ℕ, zero, suc, ◌+◌, ◌<◌, ◌≤◌, Bool, true, false, cond, eqb, ◌⊎◌, List, [], ◌∷◌, ◌++◌, map, length, filter, sym, refl, ap, ◌∙◌, subst, inl, inr, arith}
-use Rattle.std.specs.List.{ContainsAt as Has, AllByRecursion as All}
-use Rattle.std.proofs.ByRecursion.{all-has, All-weaker}
-use Rattle.std.proofs.lemmas.Bool.{eqb-true, eq-eqb, and_parts, and_from}
+use Rattle.std.specs.List.{range_with_len, ContainsAt as Has, AllByRecursion as All}
+use Rattle.std.proofs.ByRecursion.{all-has, All-weaker, has_push}
+use Rattle.std.proofs.lemmas.Bool.{eqb-true, eq-eqb, and_parts}
 use Rattle.report.specs.declared.report.Code.{Code}
 use Rattle.rulebook.specs.declared.record.Record.{Record}
-use Rattle.rulebook.specs.Lists.{numbers}
 use Rattle.rulebook.specs.Notebook.{same_code}
 use Rattle.rulebook.specs.Gaps.{Counting}
 use Rattle.rulebook.proofs.Codes.{codes_of, all_coded}
@@ -22,9 +21,9 @@ Apart (c ∷ cs) = All (Under c) cs × Apart cs
 
 -- serials go on from some number
 GoingOn : List ℕ → Type 0
-GoingOn ns = (first : ℕ) × (ns ≡ numbers first (length ns))
+GoingOn ns = (first : ℕ) × (ns ≡ range_with_len first (length ns))
 
-numbers_above : (first n m : ℕ) → m ≤ first → All (λ x. m ≤ x) (numbers first n)
+numbers_above : (first n m : ℕ) → m ≤ first → All (λ x. m ≤ x) (range_with_len first n)
 numbers_above first zero m h = tt
 numbers_above first (suc n) m h = (h, numbers_above (first + 1) n m (omega arith))
 
@@ -77,9 +76,6 @@ same_code_is a b e =
     ap {B = Code} (λ (d : ℕ). record { day = d; serial = a.serial }) (eqb-true _ _ both.0)
     ∙ ap {B = Code} (λ (n : ℕ). record { day = b.day; serial = n }) (eqb-true _ _ both.1)
 
-pub same_code_self : (a : Code) → same_code a a ≡ true
-same_code_self a = and_from (eqb a.day a.day) (eqb a.serial a.serial) (eq-eqb _ _ refl) (eq-eqb _ _ refl)
-
 -- so each code has one trade
 pub one_of : (ts : List Record) → Apart (codes_of ts) → (u v : Record) → Has ts u → Has ts v → u.code ≡ v.code → u ≡ v
 one_of [] h u v (k, lt, at) q e = absurd (omega arith)
@@ -100,8 +96,4 @@ one_of (t ∷ ts) (under, h) u v p q e = by_cases (has_cases t ts u p) (has_case
 -- the last of them is above all others
 pub apart_last : (cs : List Code) (c : Code) → Apart (cs ++ c ∷ []) → All (λ x. Under x c) cs
 apart_last [] c h = tt
-apart_last (x ∷ xs) c (under, h) = (last xs under, apart_last xs c h)
-  where
-    last : (ys : List Code) → All (Under x) (ys ++ c ∷ []) → Under x c
-    last [] (p, q) = p
-    last (y ∷ ys) (p, q) = last ys q
+apart_last (x ∷ xs) c (under, h) = (all-has (Under x) (xs ++ c ∷ []) c under (has_push xs c), apart_last xs c h)

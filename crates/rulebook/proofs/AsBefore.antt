@@ -1,14 +1,14 @@
 -- The sheets after a trade was withdrawn are those before it was taken.
-use Rattle.std.proofs.Common.{◌≡◌, ℕ, ◌+◌, Bool, true, false, cond, not, ◌&&◌, List, [], ◌∷◌, ◌++◌, map, filter, sym, refl, ap, ◌∙◌, subst, append_assoc}
+use Rattle.std.proofs.Common.{◌≡◌, ℕ, ◌+◌, Bool, true, false, cond, not, ◌&&◌, List, [], ◌∷◌, ◌++◌, map, filter, sym, refl, ap, ◌∙◌, subst, append_assoc, arith}
 use Rattle.std.specs.List.{AllByRecursion as All}
 use Rattle.std.proofs.ByRecursion.{All-map, All-weaker, all_kept_by}
 use Rattle.std.proofs.lemmas.Bool.{both_ways}
+use Rattle.std.proofs.lemmas.Bool.Decides.{nat_tests}
 use Rattle.report.specs.declared.figures.Sheet.{Sheet}
 use Rattle.report.specs.declared.figures.Sheet.TheVariants.{Full, Public}
 use Rattle.report.specs.declared.report.Code.{Code}
 use Rattle.report.specs.declared.state.Event.TheVariants.{Due}
 use Rattle.report.specs.declared.state.State.{State}
-use Rattle.report.specs.declared.state.State.TheVariants.{Waiting, Published, Dropped, Recalled}
 use Rattle.report.specs.States.{survives}
 use Rattle.rulebook.specs.declared.call.Call.{Call}
 use Rattle.rulebook.specs.declared.record.Record.{Record}
@@ -25,7 +25,7 @@ use Rattle.rulebook.proofs.Sound.{sound_fed}
 use Rattle.rulebook.proofs.Plain.{plain, same_figures}
 use Rattle.rulebook.proofs.Restored.{midway, Course, code_new, full_restored, public_restored}
 use Rattle.rulebook.proofs.Sieves.{all_of, kept_same}
-use Rattle.rulebook.proofs.Always.{none_from}
+use Rattle.rulebook.proofs.Always.{none_from, fed_append}
 use Rattle.rulebook.proofs.Throughout.{blank_well}
 use Rattle.rulebook.proofs.Views.{on_list, beside, view, others, counted_is, on_published, survives_due}
 use Rattle.rulebook.proofs.Withdrawals.{gone_on, withdrawn_gone}
@@ -74,11 +74,7 @@ only_others code us h =
     (All-weaker (Gone code) (λ u. is_published u.state ≡ others code u) (λ u g. by_cases u.state (same_code u.code code) g) us h)
   where
     by_cases : (x : State) (b : Bool) → (b ≡ true → survives x ≡ false) → is_published x ≡ (is_published x && not b)
-    by_cases Waiting b g = refl
-    by_cases Published true g = g refl
-    by_cases Published false g = refl
-    by_cases Dropped b g = refl
-    by_cases Recalled b g = refl
+    by_cases x b g = grind (arith, nat_tests, g)
 
 module _ (rules : Rules) (d : Desk) (h : History) (c w : Call) (t : Record) (course : Course rules d h c w t) where
   public_before : map (plain t) (filter (λ u. is_published u.state) (on_list t d.notebook.records)) ≡ view t (others t.code) d.notebook.records
@@ -104,10 +100,6 @@ module _ (rules : Rules) (d : Desk) (h : History) (c w : Call) (t : Record) (cou
       (gone_changed t.code (on_list t m.records)))))
 
 -- a history in two parts
-fed_append : (rules : Rules) (d : Desk) (g h : History) → fed rules d (g ++ h) ≡ fed rules (fed rules d g) h
-fed_append rules d [] h = refl
-fed_append rules d (e ∷ es) h = fed_append rules (step rules d e) es h
-
 rightly_append : (rules : Rules) (d : Desk) (g h : History) → Rightly rules d (g ++ h) → Rightly rules d g × Rightly rules (fed rules d g) h
 rightly_append rules d [] h r = (tt, r)
 rightly_append rules d (e ∷ es) h (r, rs) = let both = rightly_append rules (step rules d e) es h rs in ((r, both.0), both.1)

@@ -2,6 +2,8 @@
 use Rattle.std.proofs.Common.{◌≡◌, ℕ, ◌<◌, ◌≤◌, Bool, true, false, cond, not, eqb, leb, ◌⊎◌, List, [], ◌∷◌, Some, None, Option, sym, refl, ap, ◌∙◌, subst, inl, inr, arith}
 use Rattle.std.specs.List.{AllByRecursion as All}
 use Rattle.std.proofs.lemmas.Bool.{and_parts, not-false, ltb-true, eqb-true}
+use Rattle.std.proofs.lemmas.Option.{same_Some}
+use Rattle.std.proofs.lemmas.Bool.Decides.{nat_tests}
 use Rattle.refusal.specs.Grounds.{Ground}
 use Rattle.calendar.specs.Meaning.{Meaning}
 use Rattle.deferral.specs.declared.deadlines.Deadlines.{Deadlines}
@@ -39,18 +41,15 @@ open_day rules nb held e = by_days nb.days refl held.days (not-false _ e)
         record { day = o; day_is = ap latest is; noted = all.0; before_close = ltb-true _ _ (and_parts _ _ f).1 }
 
 -- the deadlines of an entry are those of the day, or of the trading day before it
-chosen : (x y d : Deadlines) (a b c : Bool) → cond a (cond b (Some x) (cond c (Some y) None)) None ≡ Some d
-    → ((b ≡ true) × (x ≡ d)) ⊎ ((c ≡ true) × (y ≡ d))
-chosen x y d true true c e = inl (refl, cc)
-chosen x y d true false true e = inr (refl, cc)
-chosen x y d true false false e = absurd cc
-chosen x y d false b c e = absurd cc
+pub chosen : (x y d : Deadlines) (a b c : Bool) → cond a (cond b (Some x) (cond c (Some y) None)) None ≡ Some d
+    → (a ≡ true) × (((b ≡ true) × (x ≡ d)) ⊎ ((c ≡ true) × (y ≡ d)))
+chosen x y d a b c e = grind (arith, nat_tests, e)
 
 entry_dates : (m : Meaning) (o : Opened) (clock execution : ℕ) (d : Deadlines) → Noted m o → deadlines_for o clock execution ≡ Some d
     → Dates m (day_of execution) d o.day
 entry_dates m o clock execution d n e =
     let before = previous_found m o.day o.previous n.previous_is in
-    elim (chosen o.today o.before d (leb execution clock) (eqb (day_of execution) o.day) (eqb (day_of execution) o.previous) e) [
+    elim (chosen o.today o.before d (leb execution clock) (eqb (day_of execution) o.day) (eqb (day_of execution) o.previous) e).1 [
       | inl h ↦ subst (λ (x : ℕ). Dates m x d o.day) (sym (eqb-true _ _ h.0))
           (record { next = o.next; trades = n.trades; next_is = n.next_is; is = sym h.1 ∙ n.today_is; before = omega arith })
       | inr h ↦ subst (λ (x : ℕ). Dates m x d o.day) (sym (eqb-true _ _ h.0))
@@ -73,9 +72,6 @@ pub record Brought (rules : Rules) (nb : Notebook) (r : Report) (t : Record) : T
   pub dates : Dates rules.calendar (day_of r.execution) deadlines opened.day.day
   pub is : fresh rules nb amended deadlines r security ≡ t
 
-pub some_same : {X : Type 0} (x y : X) → Some x ≡ Some y → x ≡ y
-some_same x y e = cc
-
 pub brought_by_entry : (rules : Rules) (d : Desk) (r : Report) (t : Record) → Held rules d.notebook → ground rules d (Enter r) ≡ None
     → entered rules d.notebook r ≡ Some t → Brought rules d.notebook r t
 brought_by_entry rules d r t held none e =
@@ -84,7 +80,7 @@ brought_by_entry rules d r t held none e =
     let a = followed (latest nb.days) _ t e in
     let b = followed (deadlines_for a.value nb.clock r.execution) _ t a.gives in
     let c = followed (security_of nb r.isin) _ t b.gives in
-    let same : a.value ≡ o.day = some_same _ _ (sym a.is ∙ o.day_is) in
+    let same : a.value ≡ o.day = same_Some _ _ (sym a.is ∙ o.day_is) in
     record {
       opened = o;
       security = c.value;
@@ -93,7 +89,7 @@ brought_by_entry rules d r t held none e =
       deadlines = b.value;
       dates = entry_dates rules.calendar o.day nb.clock r.execution b.value o.noted
           (subst (λ (x : Opened). deadlines_for x nb.clock r.execution ≡ Some b.value) same b.is);
-      is = some_same _ _ c.gives;
+      is = same_Some _ _ c.gives;
     }
 
 -- deadlines of an execution day not after a day are so for later ones
@@ -127,5 +123,5 @@ brought_by_amendment rules d code r t held none e =
       deadlines = old.deadlines;
       dates = subst (λ (x : ℕ). Dates rules.calendar (day_of x) old.deadlines o.day.day) (sym same)
           (later_dates rules.calendar (day_of old.report.execution) old.deadlines old.code.day o.day.day upto sound.dates);
-      is = some_same _ _ c.gives;
+      is = same_Some _ _ c.gives;
     }

@@ -32,7 +32,7 @@ different_changed code f keeps (t ∷ ts) d = (
 )
   where
     kept : (cond (same_code t.code code) (f t) t).code ≡ t.code
-    kept = elim (cases_Bool (same_code t.code code)) [ inl e ↦ simp e (keeps t) | inr e ↦ simp e ]
+    kept = grind (arith, nat_tests, keeps t)
 
 pub different_kept_by : (p : Record → Bool) (ts : List Record) → Different ts → Different (filter p ts)
 different_kept_by p [] d = tt

@@ -1,8 +1,10 @@
 -- A day that falls out has no waiting trade, after every lawful history.
-use Rattle.std.proofs.Common.{◌≡◌, ℕ, ◌<◌, ◌≤◌, Bool, true, false, cond, eqb, leb, List, [], ◌∷◌, take, Some, Ok, Err, Result, sym, refl, ◌∙◌, subst, inl, inr, arith}
+use Rattle.std.proofs.Common.{◌≡◌, ◌||◌, ℕ, ◌<◌, ◌≤◌, Bool, true, false, eqb, leb, List, [], ◌∷◌, take, Some, Ok, Err, Result, sym, refl, ◌∙◌, subst, inl, inr, arith}
 use Rattle.std.specs.List.{AllByRecursion as All}
 use Rattle.std.proofs.ByRecursion.{All-weaker}
-use Rattle.std.proofs.lemmas.Bool.{and_cases, le-leb, both_ways, eqb-true}
+use Rattle.std.proofs.lemmas.Bool.{and_cases, le-leb, both_ways, eqb-true, or_cases, or_parts}
+use Rattle.std.proofs.lemmas.Option.{same_Some}
+use Rattle.std.proofs.lemmas.Bool.Decides.{nat_tests}
 use Rattle.refusal.specs.declared.Refusal.{Refusal}
 use Rattle.calendar.specs.Meaning.{Meaning}
 use Rattle.calendar.specs.Trading.{close, next_trading_day}
@@ -14,16 +16,17 @@ use Rattle.rulebook.specs.declared.record.Record.{Record}
 use Rattle.rulebook.specs.Notebook.{Rules, Notebook, among, waits, is_due}
 use Rattle.rulebook.specs.Taken.{day_opened, noted}
 use Rattle.rulebook.specs.Desk.{new_desk}
-use Rattle.rulebook.specs.FallsOut.{NoneWaits}
+use Rattle.rulebook.specs.FallsOut.{NoneWaits, NothingDue}
 use Rattle.rulebook.specs.Grounds.{grounds, too_early}
 use Rattle.rulebook.specs.Histories.{History, Lawful, desk_after, notebook_after}
 use Rattle.rulebook.proofs.Always.{always}
-use Rattle.rulebook.proofs.Brought.{some_same}
 use Rattle.rulebook.proofs.Days.{Noted, noted_day}
 use Rattle.rulebook.proofs.Grounds.{none_there}
 use Rattle.rulebook.proofs.Held.{SoundTrade, Spaced, Held}
 use Rattle.rulebook.proofs.Keeps.{held_after, spaced_opened}
 use Rattle.rulebook.proofs.Settled.{none_due_settled}
+use Rattle.rulebook.proofs.Sieves.{all_three}
+use Rattle.rulebook.proofs.Settling.{undue_none}
 
 pub none_due_after : (rules : Rules) (h : History) → Lawful rules h
     → All (λ t. is_due (notebook_after rules h).clock t ≡ false) (notebook_after rules h).records
@@ -44,33 +47,26 @@ pub record Out (m : Meaning) (day : ℕ) (o : Opened) : Type 0 where
 among_out : (m : Meaning) (day : ℕ) (o p : Opened) (ds : List Opened) → p.day < o.day → All (Noted m) ds
     → All (λ q. (q.next ≤ p.day) × (q.day < p.day)) ds → among ds day ≡ true → Out m day o
 among_out m day o p [] h all near e = absurd cc
-among_out m day o p (q ∷ qs) h all near e = by_test (eqb q.day day) refl (λ f. among_out m day o p qs h all.1 near.1 f) e
-  where
-    by_test : (b : Bool) → eqb q.day day ≡ b → (among qs day ≡ true → Out m day o) → cond b true (among qs day) ≡ true → Out m day o
-    by_test true f later g =
-        record {
-          next = q.next;
-          next_is = subst (λ (x : ℕ). next_trading_day m x ≡ Some q.next) (eqb-true _ _ f) all.0.next_is;
-          before = omega (arith, near.0);
-        }
-    by_test false f later g = later g
+among_out m day o p (q ∷ qs) h all near e =
+    elim (or_cases (eqb q.day day) (among qs day) e) [
+      | inl f ↦ record {
+        next = q.next;
+        next_is = subst (λ (x : ℕ). next_trading_day m x ≡ Some q.next) (eqb-true _ _ f) all.0.next_is;
+        before = omega (arith, near.0);
+      }
+      | inr f ↦ among_out m day o p qs h all.1 near.1 f
+    ]
 
-pub skipped : (b c : Bool) → cond b true c ≡ false → c ≡ false
-skipped false c e = e
-skipped true c e = absurd cc
-
-pub first_out : (a b c : Bool) → cond a true (cond b true c) ≡ true → cond a true (cond b true false) ≡ false → c ≡ true
-first_out false false c e f = e
-first_out false true c e f = absurd cc
-first_out true b c e f = absurd cc
+pub first_out : (a b c : Bool) → (a || (b || c)) ≡ true → (a || (b || false)) ≡ false → c ≡ true
+first_out a b c e f = grind (arith, nat_tests, e, f)
 
 -- a day held that is held no longer once another is opened
 falls_out : (m : Meaning) (day : ℕ) (o : Opened) (ds : List Opened) → All (Noted m) ds → Spaced (o ∷ ds) → among ds day ≡ true
     → among (take 3 (o ∷ ds)) day ≡ false → Out m day o
 falls_out m day o [] all s a b = absurd cc
-falls_out m day o (p ∷ []) all s a b = absurd (both_ways _ (skipped (eqb o.day day) _ b) a)
+falls_out m day o (p ∷ []) all s a b = absurd (both_ways _ (or_parts (eqb o.day day) _ b).1 a)
 falls_out m day o (p ∷ q ∷ qs) all s a b =
-    let c = skipped (eqb o.day day) _ b in
+    let c = (or_parts (eqb o.day day) _ b).1 in
     let e = first_out (eqb p.day day) (eqb q.day day) (among qs day) a c in
     among_out m day o q qs s.0.1.0.1 all.1.1 s.1.1.0 e
 
@@ -86,13 +82,8 @@ waits_not clock t reached undue =
 none_waits_out : (m : Meaning) (clock : ℕ) (o : Opened) (t : Record) → o.day ≡ day_of clock → SoundTrade m t → is_due clock t ≡ false
     → Out m t.code.day o → waits t.state ≡ false
 none_waits_out m clock o t is sound due out =
-    let same : sound.last ≡ out.next = some_same _ _ (sym sound.last_is ∙ out.next_is) in
+    let same : sound.last ≡ out.next = same_Some _ _ (sym sound.last_is ∙ out.next_is) in
     waits_not clock t (past m sound.last t.moment clock sound.in_time (omega (arith, same, is, out.before))) due
-
--- three facts of each trade
-pub all_three : {X : Type 0} (P Q R S : X → Type 0) → ((x : X) → P x → Q x → R x → S x) → (xs : List X) → All P xs → All Q xs → All R xs → All S xs
-all_three P Q R S f [] p q r = tt
-all_three P Q R S f (x ∷ xs) p q r = (f x p.0 q.0 r.0, all_three P Q R S f xs p.1 q.1 r.1)
 
 module _ (rules : Rules) (nb : Notebook) (held : Held rules nb) (due : All (λ t. is_due nb.clock t ≡ false) nb.records)
     (early : too_early nb (day_of nb.clock) ≡ false)
@@ -111,3 +102,6 @@ pub none_waits : NoneWaits
 none_waits rules law h lawful none =
     none_waits_in rules (notebook_after rules h) (held_after rules law h lawful) (none_due_after rules h lawful)
     (none_there (grounds rules (desk_after rules h) Open) none).1.1.0 (opened rules.calendar (day_of (notebook_after rules h).clock)) refl
+
+pub nothing_due : NothingDue
+nothing_due rules h lawful = undue_none (notebook_after rules h) (none_due_after rules h lawful)

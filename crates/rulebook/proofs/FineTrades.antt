@@ -1,8 +1,9 @@
 -- What is known of each trade held, whatever its state, and of a new trade that is taken.
-use Rattle.std.proofs.Common.{◌≡◌, ℕ, ◌+◌, ◌-◌, ◌*◌, ◌^◌, ◌<◌, ◌≤◌, Bool, true, false, cond, not, eqb, ltb, leb, List, [], ◌∷◌, length, is_some, Some, None, Option, sym, refl, ap, ◌∙◌, subst, arith}
-use Rattle.std.specs.List.{AllByRecursion as All}
+use Rattle.std.proofs.Common.{◌≡◌, ℕ, ◌+◌, ◌-◌, ◌*◌, ◌^◌, ◌<◌, ◌≤◌, Bool, true, false, cond, not, eqb, ltb, leb, List, [], ◌∷◌, length, is_some, Some, None, Option, sym, refl, ap, ◌∙◌, subst, arith, inl, inr}
+use Rattle.std.specs.List.{find, AllByRecursion as All}
 use Rattle.std.proofs.ByRecursion.{All-weaker}
 use Rattle.std.proofs.lemmas.Bool.{and_parts, not-false, ltb-true, ltb-false, leb-true, leb-false, eqb-true, cond_both}
+use Rattle.std.proofs.lemmas.Option.{same_Some}
 use Rattle.deferral.specs.declared.deadlines.Deadlines.{Deadlines}
 use Rattle.deferral.specs.declared.opened.Opened.{Opened}
 use Rattle.deferral.specs.declared.tier.Tier.{Tier}
@@ -19,13 +20,13 @@ use Rattle.report.specs.Published.{trade_of}
 use Rattle.rulebook.specs.declared.call.Call.{Call}
 use Rattle.rulebook.specs.declared.call.Call.TheVariants.{Enter, Amend}
 use Rattle.rulebook.specs.declared.record.Record.{Record}
-use Rattle.rulebook.specs.Lists.{first_of, passes}
+use Rattle.rulebook.specs.Lists.{passes}
 use Rattle.rulebook.specs.Notebook.{Rules, Notebook, same_isin, security_of, record_of, among, latest, open_now}
 use Rattle.rulebook.specs.Taken.{met, fresh, entered, amended, lines_of}
 use Rattle.rulebook.specs.Desk.{Desk}
 use Rattle.rulebook.specs.Grounds.{ground, grounds}
 use Rattle.rulebook.specs.Sound.{end_of, Within, Proper, InTime, Timed}
-use Rattle.rulebook.proofs.Brought.{some_same, grounds_at}
+use Rattle.rulebook.proofs.Brought.{grounds_at, chosen}
 use Rattle.rulebook.proofs.Grounds.{none_there, followed}
 use Rattle.rulebook.proofs.Held.{Spaced as Apart, first_has}
 use Rattle.rulebook.proofs.Keeps.{latest_among, earliest_of_both}
@@ -35,7 +36,7 @@ pub record Fine (clock : ℕ) (securities : List Security) (days : List Opened) 
   pub held : among days t.code.day ≡ true
   pub timed : Timed days t
   pub executed : t.report.execution ≤ clock
-  pub listed : is_some (first_of (λ s. same_isin s.isin t.report.isin) securities) ≡ true
+  pub listed : is_some (find (λ s. same_isin s.isin t.report.isin) securities) ≡ true
   pub sized : t.report.price * t.report.quantity ≤ 1000000000000000
 
 abbrev pub FineIn : Notebook → Record → Type 0
@@ -154,10 +155,8 @@ module _ (rules : Rules) (nb : Notebook) (all : All Proper nb.days) (apart : Apa
 -- the deadlines of an entry, whose execution is not after the clock
 chosen_within : (next : ℕ) (x y d : Deadlines) (a b c : Bool) → Within next x → Within next y
     → cond a (cond b (Some x) (cond c (Some y) None)) None ≡ Some d → (a ≡ true) × Within next d
-chosen_within next x y d true true c w v e = (refl, subst (Within next) (some_same x d e) w)
-chosen_within next x y d true false true w v e = (refl, subst (Within next) (some_same y d e) v)
-chosen_within next x y d true false false w v e = absurd cc
-chosen_within next x y d false b c w v e = absurd cc
+chosen_within next x y d a b c w v e =
+    let h = chosen x y d a b c e in (h.0, elim h.1 [ inl k ↦ subst (Within next) k.1 w | inr k ↦ subst (Within next) k.1 v ])
 
 pub entry_fine : (rules : Rules) (d : Desk) (r : Report) (t : Record) → All Proper d.notebook.days → Apart d.notebook.days
     → ground rules d (Enter r) ≡ None → entered rules d.notebook r ≡ Some t → FineIn d.notebook t
@@ -167,14 +166,14 @@ entry_fine rules d r t all apart none e =
     let a = followed (latest nb.days) _ t e in
     let b = followed (deadlines_for a.value nb.clock r.execution) _ t a.gives in
     let c = followed (security_of nb r.isin) _ t b.gives in
-    let same : a.value ≡ o.day = some_same _ _ (sym a.is ∙ o.day_is) in
+    let same : a.value ≡ o.day = same_Some _ _ (sym a.is ∙ o.day_is) in
     let p = o.proper in
     let later = p.later in
     let w = chosen_within o.day.next o.day.today o.day.before b.value (leb r.execution nb.clock)
     (eqb (day_of r.execution) o.day.day) (eqb (day_of r.execution) o.day.previous) p.today
     (within_later o.day.day o.day.next o.day.before (omega arith) p.before)
     (subst (λ (x : Opened). deadlines_for x nb.clock r.execution ≡ Some b.value) same b.is) in
-    subst (FineIn nb) (some_same _ _ c.gives)
+    subst (FineIn nb) (same_Some _ _ c.gives)
     (fresh_fine rules nb all apart o false b.value r c.value w.1 (leb-true _ _ w.0) c.is (clear_entry rules d r all none).sized)
 
 pub amendment_fine : (rules : Rules) (d : Desk) (code : Code) (r : Report) (t : Record) → All Proper d.notebook.days → Apart d.notebook.days
@@ -189,7 +188,7 @@ amendment_fine rules d code r t all apart fine none e =
     let old : Record = a.value in
     let f = first_has (FineIn nb) _ old nb.records fine a.is in
     let same : r.execution ≡ old.report.execution = eqb-true _ _ (not-false _ (grounds_at (record_of nb code) _ old a.is gs.1.1).0) in
-    subst (FineIn nb) (some_same _ _ c.gives)
+    subst (FineIn nb) (same_Some _ _ c.gives)
     (fresh_fine rules nb all apart o true old.deadlines r c.value
     (deadlines_upto o.day nb.days old all apart o.day_is f.held f.timed) (omega (arith, f.executed)) c.is
     (clear_amendment rules d code r none).sized)

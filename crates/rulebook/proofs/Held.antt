@@ -1,8 +1,9 @@
 -- What holds of every notebook that a lawful history leaves: of its days, and of its trades whatever their state.
-use Rattle.std.proofs.Common.{◌≡◌, ℕ, zero, suc, ◌<◌, ◌≤◌, Bool, true, false, cond, eqb, List, [], ◌∷◌, take, Some, sym, refl, subst, arith}
-use Rattle.std.specs.List.{AllByRecursion as All}
+use Rattle.std.proofs.Common.{◌≡◌, ℕ, zero, suc, ◌<◌, ◌≤◌, Bool, true, eqb, List, [], ◌∷◌, take, Some, sym, refl, subst, arith, inl, inr, Option}
+use Rattle.std.specs.List.{find, AllByRecursion as All}
 use Rattle.std.proofs.ByRecursion.{All-weaker, All-take}
-use Rattle.std.proofs.lemmas.Bool.{eqb-true}
+use Rattle.std.proofs.lemmas.Bool.{eqb-true, or_cases, cond_both}
+use Rattle.std.proofs.lemmas.Option.{same_Some}
 use Rattle.calendar.specs.Meaning.{Meaning, Lawful as Kept, trading}
 use Rattle.calendar.specs.Trading.{close, next_trading_day}
 use Rattle.deferral.specs.declared.deadlines.Deadlines.{Deadlines}
@@ -12,7 +13,6 @@ use Rattle.deferral.specs.Publication.{Timely}
 use Rattle.deferral.proofs.Opening.{next_found}
 use Rattle.deferral.proofs.Timely.{timely}
 use Rattle.rulebook.specs.declared.record.Record.{Record}
-use Rattle.rulebook.specs.Lists.{first_of}
 use Rattle.rulebook.specs.Notebook.{Rules, Notebook, among, latest}
 use Rattle.rulebook.proofs.Days.{Noted}
 
@@ -58,22 +58,19 @@ spaced_take (suc n) [] s = tt
 spaced_take (suc n) (o ∷ os) s = (All-take _ n os s.0, spaced_take n os s.1)
 
 -- what holds of all holds of the first that passes
-pub first_has : {X : Type 0} (P : X → Type 0) (p : X → Bool) (x : X) (xs : List X) → All P xs → first_of p xs ≡ Some x → P x
+pub first_has : {X : Type 0} (P : X → Type 0) (p : X → Bool) (x : X) (xs : List X) → All P xs → find p xs ≡ Some x → P x
 first_has P p x [] all e = absurd cc
-first_has {X} P p x (y ∷ ys) all e = by_test (p y) (λ f. first_has P p x ys all.1 f) e
-  where
-    by_test : (b : Bool) → (first_of p ys ≡ Some x → P x) → cond b (Some y) (first_of p ys) ≡ Some x → P x
-    by_test true later f = let same : y ≡ x = cc in subst P same all.0
-    by_test false later f = later f
+first_has {X} P p x (y ∷ ys) all e =
+    cond_both (p y) (Some y) (find p ys) (λ (o : Option X). o ≡ Some x → P x) (λ t f. subst P (same_Some y x f) all.0) (λ t f. first_has P p x ys all.1 f) e
 
 -- a day among days that have a property has it
 pub among_has : (P : ℕ → Type 0) (day : ℕ) (ds : List Opened) → All (λ o. P o.day) ds → among ds day ≡ true → P day
 among_has P day [] all e = absurd cc
-among_has P day (o ∷ os) all e = by_test (eqb o.day day) refl (λ g. among_has P day os all.1 g) e
-  where
-    by_test : (b : Bool) → eqb o.day day ≡ b → (among os day ≡ true → P day) → cond b true (among os day) ≡ true → P day
-    by_test true f later g = subst P (eqb-true _ _ f) all.0
-    by_test false f later g = later g
+among_has P day (o ∷ os) all e =
+    elim (or_cases (eqb o.day day) (among os day) e) [
+      | inl f ↦ subst P (eqb-true _ _ f) all.0
+      | inr f ↦ among_has P day os all.1 f
+    ]
 
 -- no day held is after the latest
 pub upto_latest : (day : ℕ) (o : Opened) (ds : List Opened) → Spaced ds → latest ds ≡ Some o → among ds day ≡ true → day ≤ o.day

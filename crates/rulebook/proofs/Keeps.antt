@@ -1,15 +1,15 @@
 -- Every call that is taken keeps what holds of the notebook.
-use Rattle.std.proofs.Common.{◌≡◌, ℕ, ◌-◌, ◌^◌, ◌<◌, ◌≤◌, min, max, true, false, eqb, ltb, List, [], ◌∷◌, take, Some, None, Ok, Err, Option, Result, sym, refl, ap, subst, arith}
+use Rattle.std.proofs.Common.{◌≡◌, ℕ, ◌-◌, ◌^◌, ◌<◌, ◌≤◌, min, max, true, false, eqb, ltb, List, [], ◌∷◌, take, Some, None, Ok, Err, Option, Result, sym, refl, ap, subst, arith, rules}
 use Rattle.std.specs.List.{AllByRecursion as All}
 use Rattle.std.proofs.ByRecursion.{All-weaker, All-take, All-push, all_kept_by, kept_by_passes}
-use Rattle.std.proofs.lemmas.Bool.{eq-eqb, ltb-false, cond-true}
+use Rattle.std.proofs.lemmas.Bool.{eq-eqb, ltb-false, or_left}
 use Rattle.refusal.specs.declared.Refusal.{Refusal}
 use Rattle.calendar.specs.Meaning.{Meaning, Lawful as Kept}
 use Rattle.calendar.specs.Trading.{close}
 use Rattle.deferral.specs.declared.deadlines.Deadlines.{Deadlines}
 use Rattle.deferral.specs.declared.opened.Opened.{Opened}
 use Rattle.deferral.specs.declared.tier.Tier.{Tier}
-use Rattle.deferral.specs.declared.tier.Tier.TheVariants.{Zero, One, Two, Three, Four}
+use Rattle.deferral.specs.declared.tier.Tier.TheVariants.{Four}
 use Rattle.deferral.specs.Deadlines.{day_of, opened}
 use Rattle.deferral.specs.Judged.{trade_tier}
 use Rattle.deferral.specs.Publication.{tier_moment}
@@ -41,14 +41,10 @@ latest_day_is (p ∷ ps) o e = let same : p ≡ o = cc in ap (λ (x : Opened). x
 
 pub latest_among : (ds : List Opened) (o : Opened) → latest ds ≡ Some o → among ds (latest_day ds) ≡ true
 latest_among [] o e = absurd cc
-latest_among (p ∷ ps) o e = cond-true (eqb p.day p.day) true (among ps p.day) (eq-eqb _ _ refl)
+latest_among (p ∷ ps) o e = or_left (eqb p.day p.day) (among ps p.day) (eq-eqb p.day p.day refl)
 
 highest : (t : Tier) → tier_number t ≤ 4
-highest Zero = omega arith
-highest One = omega arith
-highest Two = omega arith
-highest Three = omega arith
-highest Four = omega arith
+highest t = search rules
 
 pub earliest_of_both : (a b c k : ℕ) → a ≤ b → c ≤ b → min (max a c) k ≤ b
 earliest_of_both a b c k h i = omega arith

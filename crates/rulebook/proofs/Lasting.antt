@@ -4,6 +4,7 @@ use Rattle.std.specs.List.{ContainsAt as Has, AllByRecursion as All}
 use Rattle.std.proofs.lemmas.List.Elements.{filter-append}
 use Rattle.std.proofs.ByRecursion.{All-map, All-weaker, all_has_itself, all_kept_by, kept_by_passes}
 use Rattle.std.proofs.lemmas.Bool.{and_cases, and_parts, both_ways, eqb-true, not-false}
+use Rattle.std.proofs.lemmas.Bool.Decides.{nat_tests}
 use Rattle.refusal.specs.declared.Refusal.{Refusal}
 use Rattle.calendar.specs.Meaning.{Meaning}
 use Rattle.deferral.specs.declared.opened.Opened.{Opened}
@@ -21,16 +22,17 @@ use Rattle.rulebook.specs.Former.{brings_to, takes_from, publishes_on, Untouched
 use Rattle.rulebook.specs.Grounds.{ground}
 use Rattle.rulebook.specs.Histories.{History, step, fed, Rightly}
 use Rattle.rulebook.proofs.Apart.{Apart, same_code_is}
-use Rattle.rulebook.proofs.Codes.{codes_of, published_codes, kept_codes, all_in_order}
-use Rattle.rulebook.proofs.Openings.{opened_noted}
+use Rattle.rulebook.proofs.Codes.{codes_of, published_codes, kept_codes}
 use Rattle.rulebook.proofs.Plain.{plain}
-use Rattle.rulebook.proofs.Reaching.{Reached, Past}
-use Rattle.rulebook.proofs.Sieves.{all_of, all_both, kept_same, kept_both, some_none}
+use Rattle.rulebook.proofs.Reaching.{Reached, Past, below}
+use Rattle.rulebook.proofs.Sieves.{all_of, all_two, kept_same, kept_both, some_none}
 use Rattle.rulebook.proofs.Taking.{opened_past}
 use Rattle.rulebook.proofs.Always.{none_from}
 use Rattle.rulebook.proofs.Views.{beside, on_list, view, surviving, others, on_changed, changed_none, full_settled, public_settled, Aside, elsewhere, untouched}
 use Rattle.rulebook.proofs.Sound.{Sound, sound_apart, sound_noted, sound_step}
-use Rattle.rulebook.proofs.Lost.{Lost, past_reached, lost_noted}
+use Rattle.rulebook.proofs.Lost.{Lost, lost_noted}
+use Rattle.rulebook.proofs.Ordered.{all_in_order}
+use Rattle.rulebook.proofs.Days.{noted_day}
 
 -- a trade that is not beside it, and the trade of a code that is not
 pub on_new : (t : Record) (o : Option Record) (nb : Notebook) → passes (beside t) o ≡ false → on_list t (with_new o nb).records ≡ on_list t nb.records
@@ -55,12 +57,12 @@ holding_opened t s seen m day (Err r) nb e past v reached = inl (v, reached)
 holding_opened t s seen m day (Ok o) nb e past v reached = by_cases (among (take 3 (o ∷ nb.days)) t.code.day) refl
   where
     after : t.code.day + 1 ≤ o.day
-    after = past_reached nb.days o t.code.day (subst (Past nb.days) (sym (opened_noted m day o e).is) past) reached
+    after =
+        let past_it = below nb.days o t.code.day (subst (Past nb.days) (sym (noted_day m day o e).0) past) reached in
+        omega (arith, past_it)
 
     still : (a b : Bool) → (b ≡ true → a ≡ true) → (a && b) ≡ b
-    still true b h = refl
-    still false true h = h refl
-    still false false h = refl
+    still a b h = grind (arith, nat_tests, h)
 
     by_cases : (b : Bool) → among (take 3 (o ∷ nb.days)) t.code.day ≡ b → Holding t s seen (day_opened (Ok o) nb)
     by_cases true held =
@@ -156,9 +158,8 @@ public_quiet t rules d call e w silent =
     (all_kept_by (is_due nb.clock) (Has nb.records) nb.records (all_has_itself nb.records)) in
     let none = some_none (λ u. beside t u && not (same_code u.code t.code)) (due_now nb) silent in
     public_settled t (latest_day nb.days) (nb.written + 1) (due_now nb) nb.records
-    (All-weaker (λ u. Has nb.records u × ((beside t u && not (same_code u.code t.code)) ≡ false)) (Aside t (codes_of (on_list t nb.records)))
-    (λ u h. aside nb apart u h.0 (and_cases (beside t u) (not (same_code u.code t.code)) h.1)) (due_now nb)
-    (all_both (Has nb.records) (λ u. (beside t u && not (same_code u.code t.code)) ≡ false) (due_now nb) held none))
+    (all_two (Has nb.records) (λ u. (beside t u && not (same_code u.code t.code)) ≡ false) (Aside t (codes_of (on_list t nb.records)))
+    (λ u has off. aside nb apart u has (and_cases (beside t u) (not (same_code u.code t.code)) off)) (due_now nb) held none)
   where
     aside : (nb : Notebook) → Apart (codes_of nb.records) → (u : Record) → Has nb.records u → (beside t u ≡ false) ⊎ (not (same_code u.code t.code) ≡ false)
         → Aside t (codes_of (on_list t nb.records)) u

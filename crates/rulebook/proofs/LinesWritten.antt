@@ -1,5 +1,5 @@
 -- How many lines a call writes where nothing was due before it.
-use Rattle.std.proofs.Common.{◌≡◌, ℕ, suc, ◌+◌, Bool, true, false, cond, List, [], ◌∷◌, ◌++◌, length, Some, Ok, Err, Option, Result, refl, ap, ◌∙◌, length-append}
+use Rattle.std.proofs.Common.{◌≡◌, ℕ, suc, ◌+◌, Bool, cond, List, [], ◌∷◌, ◌++◌, length, Some, Ok, Err, Option, Result, refl, ap, ◌∙◌, length-append, rules}
 use Rattle.std.proofs.ByRecursion.{all_kept_by}
 use Rattle.std.proofs.lemmas.List.{append-nil}
 use Rattle.refusal.specs.declared.Refusal.{Refusal}
@@ -24,9 +24,8 @@ pub length_told : (day number : ℕ) (ts : List Record) → length (told_from da
 length_told day number [] = refl
 length_told day number (t ∷ ts) = ap suc (length_told day (number + 1) ts)
 
-one_or_none : {X : Type 0} (b : Bool) (x : X) → length (cond b (x ∷ []) []) ≡ cond b 1 0
-one_or_none true x = refl
-one_or_none false x = refl
+pub one_or_none : {X : Type 0} (b : Bool) (x : X) → length (cond b (x ∷ []) []) ≡ cond b 1 0
+one_or_none b x = search rules
 
 -- a line for each trade that is due
 pub length_due_lines : (nb : Notebook) → length (due_lines nb) ≡ length (due_now nb)

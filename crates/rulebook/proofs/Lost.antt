@@ -16,10 +16,10 @@ use Rattle.rulebook.specs.Taken.{withdrawn, without, with_new, day_opened, enter
 use Rattle.rulebook.specs.Desk.{Desk}
 use Rattle.rulebook.specs.Grounds.{ground}
 use Rattle.rulebook.proofs.Codes.{codes_of, changed_codes, kept_codes}
-use Rattle.rulebook.proofs.Openings.{opened_noted}
-use Rattle.rulebook.proofs.Reaching.{Reached, Past}
+use Rattle.rulebook.proofs.Reaching.{Reached, Past, below}
 use Rattle.rulebook.proofs.Taking.{New, entered_new, amended_new, opened_past}
 use Rattle.rulebook.proofs.Sound.{Sound}
+use Rattle.rulebook.proofs.Days.{noted_day}
 
 -- the trade's day fell out: no trade has it, and none will
 pub record Lost (t : Record) (days : List Opened) (codes : List Code) : Type 0 where
@@ -45,19 +45,14 @@ lost_new t (Some u) nb codes n h =
 lost_without : (t : Record) (code : Code) (nb : Notebook) → Lost t nb.days (codes_of nb.records) → Lost t nb.days (codes_of (without code nb).records)
 lost_without t code nb h = subst (Lost t nb.days) (sym (changed_codes code withdrawn (λ u. refl) nb.records)) h
 
--- a day that is opened lies after one that was reached
-pub past_reached : (days : List Opened) (o : Opened) (day : ℕ) → Past days o.day → Reached days day → day + 1 ≤ o.day
-past_reached [] o day past r = absurd r
-past_reached (p ∷ ps) o day past r = omega arith
-
 lost_opened : (t : Record) (m : Meaning) (day : ℕ) (r : Result Opened Refusal) (nb : Notebook) → opened m day ≡ r → Past nb.days day
     → Lost t nb.days (codes_of nb.records) → Lost t (day_opened r nb).days (codes_of (day_opened r nb).records)
 lost_opened t m day (Err r) nb e past h = h
 lost_opened t m day (Ok o) nb e past h =
-    let after : Past nb.days o.day = subst (Past nb.days) (sym (opened_noted m day o e).is) past in
+    let after : Past nb.days o.day = subst (Past nb.days) (sym (noted_day m day o e).0) past in
     let still : ℕ → Bool = among (take 3 (o ∷ nb.days)) in
     record {
-      later = omega (arith, past_reached nb.days o (t.code.day + 1) after h.later);
+      later = omega (arith, below nb.days o (t.code.day + 1) after h.later);
       none =
           subst (All (λ c. c.day ≡ t.code.day → ⊥)) (sym (kept_codes (λ c. still c.day) nb.records))
           (all_kept_by (λ c. still c.day) (λ c. c.day ≡ t.code.day → ⊥) (codes_of nb.records) h.none);

@@ -1,5 +1,6 @@
 -- The larger trade is never earlier, after every lawful history.
 use Rattle.std.proofs.Common.{◌≡◌, ℕ, ◌≤◌, Some, None, Option, Ok, sym, refl, ap, ◌∙◌, subst}
+use Rattle.std.proofs.lemmas.Option.{same_Some}
 use Rattle.refusal.specs.declared.Refusal.{Refusal}
 use Rattle.refusal.specs.Grounds.{unless}
 use Rattle.calendar.specs.Meaning.{Meaning}
@@ -24,7 +25,7 @@ use Rattle.rulebook.specs.Grounds.{ground}
 use Rattle.rulebook.specs.Answers.{receipt, answer_of, answer_to}
 use Rattle.rulebook.specs.Histories.{desk_after}
 use Rattle.rulebook.specs.Larger.{AlikeButSize, Brings, by_entry, by_amendment, LargerEverywhere}
-use Rattle.rulebook.proofs.Brought.{Brought, brought_by_entry, brought_by_amendment, some_same}
+use Rattle.rulebook.proofs.Brought.{Brought, brought_by_entry, brought_by_amendment}
 use Rattle.rulebook.proofs.Dated.{dates_on, deadlines_on}
 use Rattle.rulebook.proofs.Held.{Held, dates_timely}
 use Rattle.rulebook.proofs.Keeps.{held_after}
@@ -83,7 +84,7 @@ moment_of : (rules : Rules) (nb : Notebook) (r : Report) (x : Receipt) (s : Secu
     → (published rules.tier (deadlines_on rules.calendar execution) nb.clock (trade_of r s)).moment ≡ x.moment
 moment_of rules nb r x s execution t is same =
     let b = t.brought in
-    let one : b.security ≡ s = some_same _ _ (sym b.security_is ∙ is) in
+    let one : b.security ≡ s = same_Some _ _ (sym b.security_is ∙ is) in
     let on : b.deadlines ≡ deadlines_on rules.calendar execution =
     dates_on rules.calendar r.execution b.deadlines _ b.dates ∙ ap (deadlines_on rules.calendar) same in
     ap (λ (d : Deadlines). (published rules.tier d nb.clock (trade_of r s)).moment) (sym on)

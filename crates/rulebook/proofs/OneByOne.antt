@@ -3,6 +3,7 @@ use Rattle.std.proofs.Common.{◌≡◌, ℕ, zero, suc, ◌+◌, ◌<◌, Bool,
 use Rattle.std.specs.List.{AllByRecursion as All}
 use Rattle.std.proofs.ByRecursion.{All-weaker, All-get_or, all_kept_by}
 use Rattle.std.proofs.lemmas.Bool.{cases_Bool, not_from_false}
+use Rattle.std.proofs.lemmas.Bool.Decides.{nat_tests}
 use Rattle.report.specs.declared.line.Place.{Place}
 use Rattle.report.specs.declared.report.Code.{Code}
 use Rattle.report.specs.declared.state.Event.TheVariants.{Due}
@@ -16,31 +17,17 @@ use Rattle.rulebook.proofs.Different.{same_code_sym, different_kept_by, differen
 use Rattle.rulebook.proofs.Ordered.{all_in_order, put_first, in_order_kept, publication_orders, published_after}
 use Rattle.rulebook.proofs.Settled.{same_code_refl, due_waits_not}
 use Rattle.rulebook.proofs.Settling.{settled_by}
+use Rattle.rulebook.proofs.Sieves.{kept_all}
 
 -- has the trade another code?
 abbrev pub other_than : Code → Record → Bool
 other_than code u = not (same_code u.code code)
 
--- all are kept where all pass
-pub kept_by_all : {X : Type 0} (p : X → Bool) (xs : List X) → All (λ x. p x ≡ true) xs → filter p xs ≡ xs
-kept_by_all p [] all = refl
-kept_by_all p (x ∷ xs) all = simp (all.0, kept_by_all p xs all.1)
-
 -- one that is published is due no more, and the others as before
 pub due_without : (clock : ℕ) (code : Code) (place : Place) (ts : List Record)
     → filter (is_due clock) (changed code (met Due place) ts) ≡ filter (other_than code) (filter (is_due clock) ts)
 due_without clock code place [] = refl
-due_without clock code place (t ∷ ts) =
-    elim (cases_Bool (same_code t.code code)) [
-      | inl e ↦ elim (cases_Bool (is_due clock t)) [
-        | inl f ↦ simp (e, f, due_waits_not) (due_without clock code place ts)
-        | inr f ↦ simp (e, f, due_waits_not) (due_without clock code place ts)
-      ]
-      | inr e ↦ elim (cases_Bool (is_due clock t)) [
-        | inl f ↦ simp (e, f) (ap (λ (us : List Record). t ∷ us) (due_without clock code place ts))
-        | inr f ↦ simp (e, f) (due_without clock code place ts)
-      ]
-    ]
+due_without clock code place (t ∷ ts) = grind (arith, nat_tests, due_waits_not, due_without clock code place ts)
 
 pub due_after_one : (nb : Notebook) (t : Record)
     → due_now (one_published t nb) ≡ in_order published_before (filter (other_than t.code) (filter (is_due nb.clock) nb.records))
@@ -49,7 +36,7 @@ due_after_one nb t =
 
 others : (t : Record) (ts : List Record) → All (λ u. same_code t.code u.code ≡ false) ts → filter (other_than t.code) ts ≡ ts
 others t ts all =
-    kept_by_all (other_than t.code) ts (All-weaker _ _ (λ u e. not_from_false _ (same_code_sym u.code t.code ∙ e)) ts all)
+    kept_all (other_than t.code) ts (All-weaker _ _ (λ u e. not_from_false _ (same_code_sym u.code t.code ∙ e)) ts all)
 
 -- the first that is due, and what is due after it
 module _ (nb : Notebook) (t : Record) (ts : List Record) (different : Different nb.records) (first : due_now nb ≡ t ∷ ts) where

@@ -56,11 +56,7 @@ module _ {X : Type 0} (before : X → X → Bool) (order : Orders before) where
   -- what is left out leaves the order of the others as it was
   put_in_left_out : (q : X → Bool) (x : X) (ys : List X) → q x ≡ false → filter q (put_in before x ys) ≡ filter q ys
   put_in_left_out q x [] f = simp f
-  put_in_left_out q x (y ∷ ys) f =
-      elim (cases_Bool (before x y)) [
-        | inl e ↦ simp (e, f)
-        | inr e ↦ simp (e, put_in_left_out q x ys f)
-      ]
+  put_in_left_out q x (y ∷ ys) f = grind (arith, nat_tests, f, put_in_left_out q x ys f)
 
   put_in_kept : (q : X → Bool) (x : X) (ys : List X) → q x ≡ true → Rising before ys
       → filter q (put_in before x ys) ≡ put_in before x (filter q ys)
@@ -70,10 +66,7 @@ module _ {X : Type 0} (before : X → X → Bool) (order : Orders before) where
         | inl e ↦
             let after = all_kept_by q (λ z. before x z ≡ true) (y ∷ ys) (e, before_all x y ys e up.0) in
             simp (e, f) (sym (put_first before x (filter q (y ∷ ys)) after))
-        | inr e ↦ elim (cases_Bool (q y)) [
-          | inl g ↦ simp (e, g, put_in_kept q x ys f up.1)
-          | inr g ↦ simp (e, g, put_in_kept q x ys f up.1)
-        ]
+        | inr e ↦ grind (arith, nat_tests, e, f, put_in_kept q x ys f up.1)
       ]
 
   pub in_order_kept : (q : X → Bool) (xs : List X) → in_order before (filter q xs) ≡ filter q (in_order before xs)

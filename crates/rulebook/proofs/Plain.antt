@@ -1,5 +1,5 @@
 -- A sheet's figures depend on no more than the codes and reports of the trades that it counts.
-use Rattle.std.proofs.Common.{◌≡◌, ℕ, ◌+◌, ◌*◌, Bool, true, false, cond, List, [], ◌∷◌, map, length, Some, None, fold, Option, sym, refl, ap, ◌∙◌}
+use Rattle.std.proofs.Common.{◌≡◌, ℕ, ◌+◌, ◌*◌, Bool, cond, List, [], ◌∷◌, map, length, Some, None, fold, Option, sym, refl, ap, ◌∙◌, rules}
 use Rattle.std.proofs.lemmas.List.{length-map}
 use Rattle.report.specs.declared.state.State.TheVariants.{Waiting}
 use Rattle.report.specs.Published.{makes_prices}
@@ -32,16 +32,14 @@ first_map {X = X} {Y = Y} f before (x ∷ xs) =
     ap (λ (o : Option Y). Some (earlier_of before (f x) o)) (first_map f before xs) ∙ ap Some (earlier (first_by (λ y z. before (f y) (f z)) xs))
   where
     either : (b : Bool) (y : X) → cond b (f y) (f x) ≡ f (cond b y x)
-    either true y = refl
-    either false y = refl
+    either b y = search rules
 
     earlier : (o : Option X) → earlier_of before (f x) (and_then o (λ y. Some (f y))) ≡ f (earlier_of (λ y z. before (f y) (f z)) x o)
     earlier None = refl
     earlier (Some y) = either (before (f y) (f x)) y
 
 price_plain : (t : Record) (o : Option Record) → price_of (and_then o (λ u. Some (plain t u))) ≡ price_of o
-price_plain t None = refl
-price_plain t (Some u) = refl
+price_plain t o = search rules
 
 first_price : (t : Record) (before : Record → Record → Bool) (ts : List Record)
     → price_of (first_by before (priced (map (plain t) ts))) ≡ price_of (first_by (λ u v. before (plain t u) (plain t v)) (priced ts))

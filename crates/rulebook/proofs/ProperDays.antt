@@ -16,6 +16,7 @@ use Rattle.rulebook.specs.Lists.{passes}
 use Rattle.rulebook.specs.Notebook.{among, latest, latest_day}
 use Rattle.rulebook.specs.Sound.{end_of, Within, Proper, Spaced, InTime, Timed}
 use Rattle.rulebook.proofs.Held.{Spaced as Apart, among_has}
+use Rattle.rulebook.proofs.Sieves.{all_two}
 
 -- the hours of a day end within it
 close_in_day : (m : Meaning) (day : ℕ) → close m day ≤ end_of day
@@ -86,11 +87,6 @@ nexts_upto o (q ∷ qs) all apart e =
     let later = all.0.later in
     subst (λ (x : Opened). All (λ p. p.next ≤ x.next) (q ∷ qs)) same
     (omega arith, All-weaker _ (λ p. p.next ≤ q.next) (λ p h. omega arith) qs apart.0)
-
--- two facts of each
-pub all_two : {X : Type 0} (P Q R : X → Type 0) → ((x : X) → P x → Q x → R x) → (xs : List X) → All P xs → All Q xs → All R xs
-all_two P Q R f [] p q = tt
-all_two P Q R f (x ∷ xs) p q = (f x p.0 q.0, all_two P Q R f xs p.1 q.1)
 
 -- the deadlines of every trade held lie before the end of the trading day after the latest
 pub deadlines_upto : (o : Opened) (ds : List Opened) (t : Record) → All Proper ds → Apart ds → latest ds ≡ Some o → among ds t.code.day ≡ true

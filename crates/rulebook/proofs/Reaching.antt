@@ -1,12 +1,11 @@
 -- What every notebook keeps: codes and lines reach to the latest opened day, and count each day's trades and lines from 1.
 use Rattle.std.proofs.Common.{◌≡◌, ℕ, ◌+◌, ◌<◌, ◌≤◌, List, [], ◌∷◌, ◌++◌, map, length, take, filter, sym, refl, ap, ◌∙◌, subst, arith, length-append}
-use Rattle.std.specs.List.{AllByRecursion as All}
+use Rattle.std.specs.List.{range_with_len, AllByRecursion as All}
 use Rattle.std.proofs.ByRecursion.{All-append, All-weaker, All-take, all_kept_by}
 use Rattle.std.proofs.lemmas.List.{length-map}
 use Rattle.deferral.specs.declared.opened.Opened.{Opened}
 use Rattle.report.specs.declared.line.Line.{Line}
 use Rattle.report.specs.declared.report.Code.{Code}
-use Rattle.rulebook.specs.Lists.{numbers}
 use Rattle.rulebook.specs.Notebook.{latest_day, among, of_day}
 use Rattle.rulebook.specs.Gaps.{Counting, line_numbers}
 use Rattle.rulebook.proofs.Numbering.{numbers_on, numbers_on_append, all_on, none_on, counting_on, counting_kept}
@@ -51,7 +50,7 @@ coded_more days codes c h r e =
 -- lines of the latest day go on with its numbers
 pub lined_more : (days : List Opened) (written : ℕ) (lines more : List Line) → Lined days written lines
     → All (λ l. Reached days l.place.day) more → All (λ l. l.place.day ≡ latest_day days) more
-    → map (λ l. l.place.number) more ≡ numbers (written + 1) (length more) → Lined days (written + length more) (lines ++ more)
+    → map (λ l. l.place.number) more ≡ range_with_len (written + 1) (length more) → Lined days (written + length more) (lines ++ more)
 lined_more days written lines more h r of_day e =
     let day : Line → ℕ = λ l. l.place.day in
     let number : Line → ℕ = λ l. l.place.number in
@@ -60,7 +59,7 @@ lined_more days written lines more h r of_day e =
       reached = All-append (λ l. Reached days l.place.day) lines more h.reached r;
       counted =
           counting_on day number lines more (latest_day days) h.counted of_day
-          (subst (λ (w : ℕ). map number more ≡ numbers (w + 1) (length more)) (sym h.written_are) e);
+          (subst (λ (w : ℕ). map number more ≡ range_with_len (w + 1) (length more)) (sym h.written_are) e);
       written_are =
           ap length (numbers_on_append day number lines more (latest_day days))
           ∙ length-append (numbers_on day number lines (latest_day days)) (numbers_on day number more (latest_day days))
@@ -69,7 +68,7 @@ lined_more days written lines more h r of_day e =
     }
 
 -- a day is opened after all that was reached
-below : (days : List Opened) (o : Opened) (day : ℕ) → Past days o.day → Reached days day → day < o.day
+pub below : (days : List Opened) (o : Opened) (day : ℕ) → Past days o.day → Reached days day → day < o.day
 below [] o day later h = absurd h
 below (p ∷ ps) o day later h = omega arith
 

@@ -2,7 +2,7 @@
 use Rattle.std.proofs.Common.{◌≡◌, Bool, true, false, cond, not, List, [], ◌∷◌, ◌++◌, map, is_some, Some, None, filter, sym, refl, ap, ◌∙◌, subst, inl, inr, append-nil, arith}
 use Rattle.std.specs.List.{AllByRecursion as All}
 use Rattle.std.proofs.lemmas.List.Elements.{filter-append}
-use Rattle.std.proofs.ByRecursion.{All-map, All-weaker, all_kept_by}
+use Rattle.std.proofs.ByRecursion.{All-map, All-weaker, all_kept_by, all-has, has_push}
 use Rattle.std.proofs.lemmas.List.{map-append}
 use Rattle.std.proofs.lemmas.Bool.{and_right, not_from_true, not_from_false}
 use Rattle.report.specs.declared.report.Code.{Code}
@@ -14,7 +14,7 @@ use Rattle.rulebook.specs.Desk.{Desk, taken}
 use Rattle.rulebook.specs.Former.{withdraws, brings_to, takes_from, Untouched}
 use Rattle.rulebook.specs.Grounds.{ground}
 use Rattle.rulebook.specs.Histories.{History, fed, Rightly}
-use Rattle.rulebook.proofs.Apart.{Apart, Under, same_code_is, same_code_self, apart_last}
+use Rattle.rulebook.proofs.Apart.{Apart, Under, same_code_is, apart_last}
 use Rattle.rulebook.proofs.Codes.{codes_of, all_coded}
 use Rattle.rulebook.proofs.Lasting.{Quiet, Steady, Holding, holding_settled, holding_fed, full_quiet, full_steady}
 use Rattle.rulebook.proofs.Sound.{Sound, sound_apart, sound_noted, sound_step}
@@ -23,6 +23,7 @@ use Rattle.rulebook.proofs.Reaching.{Reached}
 use Rattle.rulebook.proofs.Sieves.{all_of, kept_same, kept_all, kept_none}
 use Rattle.rulebook.proofs.Views.{on_list, beside, view, surviving, others, view_of_changed, others_changed, false_unless}
 use Rattle.rulebook.proofs.Withdrawals.{taken_on, taken_codes, gone_on, not_lost, survivors_but}
+use Rattle.rulebook.proofs.Settled.{same_code_refl}
 
 -- the desk at which the trade is withdrawn
 abbrev pub midway : Rules → Desk → Call → History → Desk
@@ -39,10 +40,6 @@ pub record Course (rules : Rules) (d : Desk) (h : History) (c w : Call) (t : Rec
   pub between : Untouched rules t.report.isin t.code.day (taken rules d c) h
   pub gone : withdraws w ≡ Some t.code
   pub elsewhere : brings_to rules (midway rules d c h).notebook t.report.isin t.code.day w ≡ false
-
-all_last : {X : Type 0} (P : X → Type 0) (xs : List X) (x : X) → All P (xs ++ x ∷ []) → P x
-all_last P [] x (p, h) = p
-all_last P (y ∷ ys) x (p, h) = all_last P ys x h
 
 module _ (rules : Rules) (d : Desk) (h : History) (c w : Call) (t : Record) (course : Course rules d h c w t) where
   -- where what falls due is quiet, the trade is all that comes
@@ -62,9 +59,10 @@ module _ (rules : Rules) (d : Desk) (h : History) (c w : Call) (t : Record) (cou
 
       reached : Reached (noted rules d.notebook c).days t.code.day
       reached =
-          all_last (λ x. Reached (noted rules d.notebook c).days x.day) (codes_of d.notebook.records) t.code
+          all-has (λ x. Reached (noted rules d.notebook c).days x.day) (codes_of d.notebook.records ++ t.code ∷ []) t.code
           (subst (All (λ x. Reached (noted rules d.notebook c).days x.day)) (taken_codes t rules d.notebook c course.new)
           (sound_noted rules d c course.takes course.sound).1.coded.reached)
+          (has_push (codes_of d.notebook.records) t.code)
 
       at_first : Holding t s (view t s d.notebook.records ++ view t s (t ∷ [])) (taken rules d c).notebook
       at_first =
@@ -101,7 +99,7 @@ module _ (rules : Rules) (d : Desk) (h : History) (c w : Call) (t : Record) (cou
       let none-but : All (λ u. but u ≡ false) own =
       All-map (λ u. but u ≡ false) (plain t) (filter surviving (on_list t (t ∷ [])))
       (all_kept_by surviving (λ u. but u ≡ false) (on_list t (t ∷ []))
-      (all_kept_by (beside t) (λ u. but u ≡ false) (t ∷ []) (not_from_true (same_code t.code t.code) (same_code_self t.code), tt))) in
+      (all_kept_by (beside t) (λ u. but u ≡ false) (t ∷ []) (not_from_true (same_code t.code t.code) (same_code_refl t.code), tt))) in
       full_quiet t (noted rules m w)
       ∙ ap (λ (us : List Record). map (plain t) (filter surviving us)) (gone_on t rules m w course.gone course.elsewhere)
       ∙ survivors_but t (on_list t m.records)
@@ -118,7 +116,7 @@ module _ (rules : Rules) (d : Desk) (h : History) (c w : Call) (t : Record) (cou
       let s : Record → Bool = others t.code in
       let none : filter s (on_list t (t ∷ [])) ≡ [] =
       kept_none s (on_list t (t ∷ [])) (all_kept_by (beside t) (λ u. s u ≡ false) (t ∷ [])
-      (and_right (is_published t.state) (not (same_code t.code t.code)) (not_from_true (same_code t.code t.code) (same_code_self t.code)), tt)) in
+      (and_right (is_published t.state) (not (same_code t.code t.code)) (not_from_true (same_code t.code t.code) (same_code_refl t.code)), tt)) in
       last
       ∙ ap (λ (us : List Record). map (plain t) (filter s us)) (gone_on t rules m w course.gone course.elsewhere)
       ∙ view_of_changed t s t.code withdrawn (λ u. refl) (on_list t m.records)

@@ -1,44 +1,31 @@
 -- What publishing does to each trade, and that a trade which falls due is then seen.
-use Rattle.std.proofs.Common.{◌≡◌, ℕ, ◌+◌, Bool, true, false, cond, ◌&&◌, List, [], ◌∷◌, map, filter, sym, refl, ap, ◌∙◌, subst}
-use Rattle.std.specs.List.{AllByRecursion as All}
-use Rattle.std.proofs.lemmas.Bool.{true≢false, false≢true, both_ways, and_parts}
-use Rattle.std.proofs.ByRecursion.{All-weaker}
+use Rattle.std.proofs.Common.{◌≡◌, ◌||◌, ℕ, ◌+◌, Bool, true, false, cond, ◌&&◌, List, [], ◌∷◌, map, filter, sym, refl, ap, ◌∙◌, subst, rules}
+use Rattle.std.specs.List.{list_any, ContainsAt as Has, AllByRecursion as All}
+use Rattle.std.proofs.lemmas.Bool.{false≢true, both_ways, and_parts}
+use Rattle.std.proofs.ByRecursion.{All-weaker, all-has, all_has_itself}
 use Rattle.report.specs.declared.report.Code.{Code}
 use Rattle.report.specs.declared.state.Event.TheVariants.{Due}
 use Rattle.report.specs.declared.state.State.{State}
-use Rattle.report.specs.declared.state.State.TheVariants.{Waiting, Published, Dropped, Recalled}
 use Rattle.report.specs.States.{after}
 use Rattle.rulebook.specs.declared.record.Record.{Record}
-use Rattle.rulebook.specs.Lists.{some_of}
 use Rattle.rulebook.specs.Notebook.{Notebook, same_code, waits, is_due, published_before, latest_day}
 use Rattle.rulebook.specs.Lines.{due_now}
 use Rattle.rulebook.specs.Taken.{changed, met, published_from, settled}
 use Rattle.rulebook.specs.Trace.{was_shown, shows}
 use Rattle.rulebook.proofs.Settled.{named, same_code_refl, some_in_order, kept_named}
-
-some_rest : {X : Type 0} (p : X → Bool) (x : X) (xs : List X) → some_of p (x ∷ xs) ≡ false → some_of p xs ≡ false
-some_rest p x xs = go (p x) where
-  go : (b : Bool) → cond b true (some_of p xs) ≡ false → some_of p xs ≡ false
-  go true e = absurd (true≢false e)
-  go false e = e
-
-some_head : {X : Type 0} (p : X → Bool) (x : X) (xs : List X) → some_of p (x ∷ xs) ≡ false → p x ≡ false
-some_head p x xs = go (p x) where
-  go : (b : Bool) → cond b true (some_of p xs) ≡ false → b ≡ false
-  go true e = absurd (true≢false e)
-  go false e = refl
+use Rattle.rulebook.proofs.Sieves.{some_none}
 
 -- the test of which `shows` asks whether any passes
 abbrev pub shown_as : Code → Record → Bool
 shown_as code t = same_code t.code code && was_shown t.state
 
 -- codes that nothing shows are those of trades that were not seen
-pub unshown : (P : Code → Type 0) (xs : List Record) → ((c : Code) → P c → some_of (shown_as c) xs ≡ false) → All (λ t. P t.code → was_shown t.state ≡ false) xs
-unshown P [] h = tt
-unshown P (x ∷ xs) h =
-    (λ p. go (some_head (shown_as x.code) x xs (h x.code p)), unshown P xs (λ c p. some_rest (shown_as c) x xs (h c p))) where
-      go : (same_code x.code x.code && was_shown x.state) ≡ false → was_shown x.state ≡ false
-      go e = subst (λ (b : Bool). (b && was_shown x.state) ≡ false) (same_code_refl x.code) e
+pub unshown : (P : Code → Type 0) (xs : List Record) → ((c : Code) → P c → list_any (shown_as c) xs ≡ false) → All (λ t. P t.code → was_shown t.state ≡ false) xs
+unshown P xs h =
+    All-weaker (Has xs) (λ t. P t.code → was_shown t.state ≡ false) (λ t has p.
+    let off : shown_as t.code t ≡ false = all-has (λ u. shown_as t.code u ≡ false) xs t (some_none (shown_as t.code) xs (h t.code p)) has in
+    subst (λ (b : Bool). (b && was_shown t.state) ≡ false) (same_code_refl t.code) off)
+    xs (all_has_itself xs)
 
 -- what publishing does to one trade
 abbrev pub one_published : ℕ → ℕ → List Record → Record → Record
@@ -60,20 +47,13 @@ one_code : (day number : ℕ) (ds : List Record) (x : Record) → (one_published
 one_code day number [] x = refl
 one_code day number (d ∷ ds) x = one_code day (number + 1) ds _ ∙ go (same_code x.code d.code) where
   go : (b : Bool) → (cond b (met Due (record { day = day; number = number }) x) x).code ≡ x.code
-  go true = refl
-  go false = refl
+  go b = search rules
 
 shown_still : (s : State) → was_shown s ≡ true → was_shown (after s Due) ≡ true
-shown_still Waiting e = refl
-shown_still Published e = refl
-shown_still Dropped e = e
-shown_still Recalled e = refl
+shown_still s e = search rules
 
 shown_due : (s : State) → waits s ≡ true → was_shown (after s Due) ≡ true
-shown_due Waiting e = refl
-shown_due Published e = refl
-shown_due Dropped e = e
-shown_due Recalled e = refl
+shown_due s e = search rules
 
 -- a trade that was seen stays seen
 one_still : (day number : ℕ) (ds : List Record) (x : Record) → was_shown x.state ≡ true → was_shown (one_published day number ds x).state ≡ true
@@ -89,7 +69,7 @@ one_seen : (day number : ℕ) (ds : List Record) (x : Record) → waits x.state 
 one_seen day number [] x w e = absurd (false≢true e)
 one_seen day number (d ∷ ds) x w e =
     go (same_code x.code d.code) e (λ k. one_seen day (number + 1) ds x w k) where
-      go : (b : Bool) → cond b true (named ds x) ≡ true
+      go : (b : Bool) → (b || named ds x) ≡ true
           → (named ds x ≡ true → was_shown (one_published day (number + 1) ds x).state ≡ true)
           → was_shown (one_published day (number + 1) ds (cond b (met Due (record { day = day; number = number }) x) x)).state ≡ true
       go true i k = one_still day (number + 1) ds _ (shown_due x.state w)

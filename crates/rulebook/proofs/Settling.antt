@@ -1,12 +1,11 @@
 -- What is published where nothing was due before: nothing, or the new trade alone.
-use Rattle.std.proofs.Common.{◌≡◌, ℕ, ◌+◌, Bool, true, false, cond, leb, List, [], ◌∷◌, ◌++◌, length, filter, refl, ap, ◌∙◌, add-zero}
+use Rattle.std.proofs.Common.{◌≡◌, ℕ, ◌+◌, Bool, true, false, cond, leb, List, [], ◌∷◌, ◌++◌, length, refl, ap, ◌∙◌, add-zero, rules}
 use Rattle.std.specs.List.{AllByRecursion as All}
 use Rattle.std.proofs.lemmas.List.Elements.{filter-append}
 use Rattle.std.proofs.lemmas.Bool.{and_left}
 use Rattle.report.specs.declared.report.Code.{Code}
 use Rattle.report.specs.declared.state.Event.TheVariants.{Withdrawn}
 use Rattle.report.specs.declared.state.State.{State}
-use Rattle.report.specs.declared.state.State.TheVariants.{Waiting, Published, Dropped, Recalled}
 use Rattle.report.specs.States.{after}
 use Rattle.rulebook.specs.declared.record.Record.{Record}
 use Rattle.rulebook.specs.Lists.{in_order}
@@ -14,15 +13,11 @@ use Rattle.rulebook.specs.Notebook.{Notebook, waits, is_due, latest_day, publish
 use Rattle.rulebook.specs.Lines.{due_now, due_line, due_lines, told_from, place_at}
 use Rattle.rulebook.specs.Taken.{withdrawn, published_from, settled, one_published, added, without}
 use Rattle.rulebook.proofs.Changes.{all_changed}
+use Rattle.rulebook.proofs.Sieves.{kept_none}
 
 -- no trade that waits is due
 abbrev pub Undue : Notebook → Type 0
 Undue nb = All (λ t. is_due nb.clock t ≡ false) nb.records
-
--- none is kept where none passes
-pub kept_by_none : {X : Type 0} (p : X → Bool) (xs : List X) → All (λ x. p x ≡ false) xs → filter p xs ≡ []
-kept_by_none p [] all = refl
-kept_by_none p (x ∷ xs) all = simp all.0 (kept_by_none p xs all.1)
 
 -- the notebook where these trades fall due
 abbrev pub settled_by : Notebook → List Record → Notebook
@@ -41,7 +36,7 @@ settled_by_none nb =
     (add-zero nb.written)
 
 pub undue_none : (nb : Notebook) → Undue nb → due_now nb ≡ []
-undue_none nb all = ap (in_order published_before) (kept_by_none (is_due nb.clock) nb.records all)
+undue_none nb all = ap (in_order published_before) (kept_none (is_due nb.clock) nb.records all)
 
 pub undue_settled : (nb : Notebook) → Undue nb → settled nb ≡ nb
 undue_settled nb all = ap (settled_by nb) (undue_none nb all) ∙ settled_by_none nb
@@ -54,12 +49,11 @@ pub due_with_new : (nb : Notebook) (t : Record) → Undue nb → due_now (added 
 due_with_new nb t all =
     ap (in_order published_before)
     (filter-append (is_due nb.clock) nb.records (t ∷ [])
-    ∙ ap (λ (us : List Record). us ++ cond (is_due nb.clock t) (t ∷ []) []) (kept_by_none (is_due nb.clock) nb.records all))
+    ∙ ap (λ (us : List Record). us ++ cond (is_due nb.clock t) (t ∷ []) []) (kept_none (is_due nb.clock) nb.records all))
     ∙ alone (is_due nb.clock t)
   where
     alone : (b : Bool) → in_order published_before (cond b (t ∷ []) []) ≡ cond b (t ∷ []) []
-    alone true = refl
-    alone false = refl
+    alone b = search rules
 
 pub lines_with_new : (nb : Notebook) (t : Record) → Undue nb
     → due_lines (added t nb) ≡ cond (is_due nb.clock t) (due_line (place_at nb (nb.written + 1)) t ∷ []) []
@@ -68,8 +62,7 @@ lines_with_new nb t all =
   where
     told : (b : Bool) → told_from (latest_day nb.days) (nb.written + 1) (cond b (t ∷ []) [])
         ≡ cond b (due_line (place_at nb (nb.written + 1)) t ∷ []) []
-    told true = refl
-    told false = refl
+    told b = search rules
 
 pub settled_with_new : (nb : Notebook) (t : Record) → Undue nb
     → settled (added t nb) ≡ cond (is_due nb.clock t) (one_published t (added t nb)) (added t nb)
@@ -80,10 +73,7 @@ settled_with_new nb t all = ap (settled_by (added t nb)) (due_with_new nb t all)
     by_test false = settled_by_none (added t nb)
 
 withdrawn_waits_not : (s : State) → waits (after s Withdrawn) ≡ false
-withdrawn_waits_not Waiting = refl
-withdrawn_waits_not Published = refl
-withdrawn_waits_not Dropped = refl
-withdrawn_waits_not Recalled = refl
+withdrawn_waits_not s = search rules
 
 pub undue_without : (nb : Notebook) (code : Code) → Undue nb → Undue (without code nb)
 undue_without nb code all =

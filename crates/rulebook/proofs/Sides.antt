@@ -1,6 +1,6 @@
 -- Two notebooks that are equal but for trades of which a fact is known, and what the calls make of them where such trades are not seen.
-use Rattle.std.proofs.Common.{◌≡◌, ℕ, ◌+◌, Bool, true, false, ◌&&◌, eqb, List, [], ◌∷◌, length, take, Some, None, Ok, Err, Option, Result, sym, refl, ap, ◌∙◌, subst}
-use Rattle.std.specs.List.{AllByRecursion as All}
+use Rattle.std.proofs.Common.{◌≡◌, ℕ, ◌+◌, Bool, true, false, ◌&&◌, eqb, List, [], ◌∷◌, length, take, Some, None, Ok, Err, Option, Result, sym, refl, ap, ◌∙◌, subst, rules}
+use Rattle.std.specs.List.{list_any, AllByRecursion as All}
 use Rattle.std.proofs.lemmas.Bool.{and_right}
 use Rattle.std.proofs.ByRecursion.{All-weaker}
 use Rattle.refusal.specs.declared.Refusal.{Refusal}
@@ -15,12 +15,12 @@ use Rattle.report.specs.declared.report.Code.{Code}
 use Rattle.report.specs.declared.report.Report.{Report}
 use Rattle.report.specs.declared.security.Security.{Security}
 use Rattle.report.specs.declared.state.State.{State}
-use Rattle.report.specs.declared.state.State.TheVariants.{Waiting, Published, Dropped, Recalled}
+use Rattle.report.specs.declared.state.State.TheVariants.{Waiting}
 use Rattle.report.specs.Published.{trade_of}
 use Rattle.rulebook.specs.declared.call.Call.{Call}
 use Rattle.rulebook.specs.declared.call.Call.TheVariants.{List as Listing, Advance, Open, Enter, Amend, Cancel, CarryAway, Figures}
 use Rattle.rulebook.specs.declared.record.Record.{Record}
-use Rattle.rulebook.specs.Lists.{and_then, where_some, some_of, in_order}
+use Rattle.rulebook.specs.Lists.{and_then, where_some, in_order}
 use Rattle.rulebook.specs.Notebook.{Rules, Notebook, same_isin, same_code, of_day, security_of, record_of, among, latest, latest_day, next_code, no_place, is_due, is_published, published_before}
 use Rattle.rulebook.specs.Lines.{due_now, due_lines, recall_lines, recalled, told_from}
 use Rattle.refusal.specs.Grounds.{first_ground}
@@ -30,6 +30,7 @@ use Rattle.rulebook.specs.Taken.{settled, day_opened, with_new, without, withdra
 use Rattle.rulebook.specs.Trace.{was_shown, shows}
 use Rattle.rulebook.proofs.Unlike.{Each, each_weaker, each_push, each_push_apart, each_changed, each_published, each_kept, each_length, same_kept, Found, neither, one, two, each_found}
 use Rattle.rulebook.proofs.Seen.{unshown, none_due}
+use Rattle.rulebook.proofs.Sieves.{all_of}
 
 -- a notebook shows no code of which a fact is known
 abbrev pub Hides : (Code → Type 0) → Notebook → Type 0
@@ -49,10 +50,7 @@ same_next (sides c s d w r) =
 
 -- a trade that was never seen is not published
 unpublished : (s : State) → was_shown s ≡ false → is_published s ≡ false
-unpublished Waiting e = refl
-unpublished Published e = e
-unpublished Dropped e = refl
-unpublished Recalled e = refl
+unpublished s e = search rules
 
 -- every public sheet is the same
 -- whoever asks for a public sheet is refused on the same ground
@@ -63,7 +61,7 @@ same_figures_ground (sides c s d w r) isin day = refl
 pub same_sheet : {P : Code → Type 0} {a b : Notebook} → Sides P a b → Hides P a → Hides P b
     → (isin : Isin) (day : ℕ) → sheet_of a isin day Public ≡ sheet_of b isin day Public
 same_sheet {P} (sides c s d w {xs = xs} {ys = ys} r) u v isin day = ap figures_of (same_kept (on_sheet isin day Public) r (off xs u) (off ys v)) where
-  off : (ts : List Record) → ((c : Code) → P c → some_of (λ t. same_code t.code c && was_shown t.state) ts ≡ false)
+  off : (ts : List Record) → ((c : Code) → P c → list_any (λ t. same_code t.code c && was_shown t.state) ts ≡ false)
       → All (λ t. P t.code → on_sheet isin day Public t ≡ false) ts
   off ts h =
       All-weaker (λ t. P t.code → was_shown t.state ≡ false) (λ t. P t.code → on_sheet isin day Public t ≡ false)
@@ -153,11 +151,7 @@ SameDeadlines a b code = (t u : Record) → record_of a code ≡ Some t → reco
 
 same_amended : {P : Code → Type 0} {a b : Notebook} (rules : Rules) (code : Code) (r : Report) → SameDeadlines a b code → Sides P a b → amended rules a code r ≡ amended rules b code r
 same_amended {P} {a} {b} rules code r same (sides c l os w {xs = xs} {ys = ys} k) =
-    go (each_found (λ i. same_code i code) k (unknown xs) (unknown ys)) refl refl where
-      unknown : (ts : List Record) → All (λ t. Unit {0}) ts
-      unknown [] = tt
-      unknown (t ∷ ts) = (tt, unknown ts)
-
+    go (each_found (λ i. same_code i code) k (all_of _ (λ t. tt) xs) (all_of _ (λ t. tt) ys)) refl refl where
       new : Notebook → Record → Option Record
       new nb t = and_then (security_of nb r.isin) (λ s. Some (fresh rules nb true t.deadlines r s))
 

@@ -2,7 +2,7 @@
 use Rattle.std.proofs.Common.{◌≡◌, ℕ, ◌*◌, ◌<◌, ◌≤◌, true, false, eqb, List, [], ◌∷◌, take, None, Ok, Err, Result, refl, arith}
 use Rattle.std.specs.List.{AllByRecursion as All}
 use Rattle.std.proofs.ByRecursion.{All-weaker}
-use Rattle.std.proofs.lemmas.Bool.{both_ways}
+use Rattle.std.proofs.lemmas.Bool.{both_ways, or_parts}
 use Rattle.refusal.specs.declared.Refusal.{Refusal}
 use Rattle.calendar.specs.Meaning.{Lawful as Kept}
 use Rattle.deferral.specs.declared.opened.Opened.{Opened}
@@ -15,24 +15,25 @@ use Rattle.rulebook.specs.Desk.{Desk, taken}
 use Rattle.rulebook.specs.Grounds.{ground, grounds, too_early}
 use Rattle.rulebook.specs.Sound.{InTime, Timed, Sound}
 use Rattle.rulebook.proofs.Days.{noted_day}
-use Rattle.rulebook.proofs.FallsOut.{skipped, first_out, waits_not, all_three}
+use Rattle.rulebook.proofs.FallsOut.{first_out, waits_not}
 use Rattle.rulebook.proofs.Grounds.{none_there}
 use Rattle.rulebook.proofs.Held.{Spaced as Apart, among_has}
-use Rattle.rulebook.proofs.ProperDays.{proper_opened, all_apart, all_two}
+use Rattle.rulebook.proofs.ProperDays.{proper_opened, all_apart}
 use Rattle.rulebook.proofs.SoundSteps.{spaced_now}
+use Rattle.rulebook.proofs.Sieves.{all_two, all_three}
 
 -- a trade of a day held that is held no longer was to be seen before the day that is opened
 seen_before : (o : Opened) (ds : List Opened) (t : Record) → Apart (o ∷ ds) → Timed ds t → among ds t.code.day ≡ true
     → among (take 3 (o ∷ ds)) t.code.day ≡ false → t.moment ≤ o.day * 86400
 seen_before o [] t apart timed a b = absurd cc
-seen_before o (p ∷ []) t apart timed a b = absurd (both_ways _ (skipped (eqb o.day t.code.day) _ b) a)
+seen_before o (p ∷ []) t apart timed a b = absurd (both_ways _ (or_parts (eqb o.day t.code.day) _ b).1 a)
 seen_before o (p ∷ q ∷ qs) t apart timed a b =
     let day : ℕ = t.code.day in
     let before : q.day < o.day = apart.0.1.0.1 in
     among_has (λ x. x ≡ day → t.moment ≤ o.day * 86400) day qs
     (all_two (λ r. r.day ≡ day → InTime r t) (λ r. (r.next ≤ q.day) × (r.day < q.day)) (λ r. r.day ≡ day → t.moment ≤ o.day * 86400)
     (λ r f h e. omega (arith, (f e).moment)) qs timed.1.1 apart.1.1.0)
-    (first_out (eqb p.day day) (eqb q.day day) (among qs day) a (skipped (eqb o.day day) _ b)) refl
+    (first_out (eqb p.day day) (eqb q.day day) (among qs day) a (or_parts (eqb o.day day) _ b).1) refl
 
 module _ (rules : Rules) (d : Desk) (law : Kept rules.calendar) (sound : Sound rules.sizes d)
     (early : too_early d.notebook (day_of d.notebook.clock) ≡ false)

@@ -1,6 +1,6 @@
 -- A new desk is sound, and every call that is taken keeps a desk sound, whichever calendar and schedule it is lent.
-use Rattle.std.proofs.Common.{◌≡◌, ℕ, ◌+◌, ◌*◌, ◌<◌, ◌≤◌, Bool, true, false, cond, not, ◌&&◌, ltb, leb, List, [], ◌∷◌, ◌++◌, length, take, is_some, Some, None, Ok, Err, sum_by, filter, Option, Result, sym, refl, ap, subst, inl, inr, arith, length-take}
-use Rattle.std.specs.List.{AllByRecursion as All}
+use Rattle.std.proofs.Common.{◌≡◌, ℕ, ◌+◌, ◌*◌, ◌<◌, ◌≤◌, Bool, true, false, cond, not, ◌&&◌, ltb, leb, List, [], ◌∷◌, ◌++◌, length, take, is_some, Some, None, Ok, Err, sum_by, filter, Option, Result, sym, refl, ap, subst, inl, inr, arith, length-take, rules}
+use Rattle.std.specs.List.{find, AllByRecursion as All}
 use Rattle.std.specs.Str.{bytes_eq}
 use Rattle.std.proofs.ByRecursion.{All-weaker, All-take, All-push, all_kept_by, kept_by_passes}
 use Rattle.std.proofs.lemmas.Slice.Eq.{bytes_eq-Decides}
@@ -19,7 +19,7 @@ use Rattle.rulebook.specs.declared.call.Call.{Call}
 use Rattle.rulebook.specs.declared.call.Call.TheVariants.{List as Listing, Advance, Open, Enter, Amend, Cancel, CarryAway, Figures}
 use Rattle.rulebook.specs.declared.call.Sizes.{Sizes}
 use Rattle.rulebook.specs.declared.record.Record.{Record}
-use Rattle.rulebook.specs.Lists.{first_of, passes}
+use Rattle.rulebook.specs.Lists.{passes}
 use Rattle.rulebook.specs.Notebook.{Rules, Notebook, same_isin, same_code, security_of, among, latest, latest_day, is_due}
 use Rattle.rulebook.specs.Lines.{due_now, due_lines}
 use Rattle.rulebook.specs.Taken.{with_security, withdrawn, settled, at_clock, listed, day_opened, without, entered, amended, with_new, noted, lines_of}
@@ -28,12 +28,12 @@ use Rattle.rulebook.specs.Grounds.{ground, grounds, too_early}
 use Rattle.rulebook.specs.Sound.{Proper, Spaced, Timed, Sound}
 use Rattle.rulebook.proofs.Changes.{lasts_settled, lasts_withdrawn}
 use Rattle.rulebook.proofs.Days.{noted_day}
-use Rattle.rulebook.proofs.FallsOut.{all_three}
 use Rattle.rulebook.proofs.FineTrades.{Fine, FineIn, fine_met, clear_entry, clear_amendment, entry_fine, amendment_fine}
 use Rattle.rulebook.proofs.Grounds.{none_there}
-use Rattle.rulebook.proofs.ProperDays.{proper_opened, all_apart, spaced_front, spaced_opened_on, all_two, timed_opened}
+use Rattle.rulebook.proofs.ProperDays.{proper_opened, all_apart, spaced_front, spaced_opened_on, timed_opened}
 use Rattle.rulebook.proofs.Settled.{none_due_settled}
 use Rattle.rulebook.proofs.ToldSums.{told, recalled_told, settled_told, none_due_lines, length_published}
+use Rattle.rulebook.proofs.Sieves.{all_two, all_three}
 
 -- what holds of a sound desk's notebook, whether or not what is due has been published
 pub record Ready (sizes : Sizes) (nb : Notebook) : Type 0 where
@@ -112,39 +112,38 @@ sound_new sizes =
 
 -- a security that is listed stays listed where one is written over another of its ISIN
 found_more : {X : Type 0} (b : Bool) (x : X) (y : Option X) → is_some y ≡ true → is_some (cond b (Some x) y) ≡ true
-found_more true x y e = refl
-found_more false x y e = e
+found_more b x y e = search rules
 
-stays_listed : (isin : Isin) (s : Security) (xs : List Security) → is_some (first_of (λ x. same_isin x.isin isin) xs) ≡ true
-    → is_some (first_of (λ x. same_isin x.isin isin) (with_security s xs)) ≡ true
+stays_listed : (isin : Isin) (s : Security) (xs : List Security) → is_some (find (λ x. same_isin x.isin isin) xs) ≡ true
+    → is_some (find (λ x. same_isin x.isin isin) (with_security s xs)) ≡ true
 stays_listed isin s [] e = absurd cc
 stays_listed isin s (x ∷ xs) e = by_tests (same_isin x.isin s.isin) (same_isin x.isin isin) refl refl e (stays_listed isin s xs)
   where
     by_tests : (a b : Bool) → same_isin x.isin s.isin ≡ a → same_isin x.isin isin ≡ b
-        → is_some (cond b (Some x) (first_of (λ y. same_isin y.isin isin) xs)) ≡ true
-        → (is_some (first_of (λ y. same_isin y.isin isin) xs) ≡ true → is_some (first_of (λ y. same_isin y.isin isin) (with_security s xs)) ≡ true)
-        → is_some (first_of (λ y. same_isin y.isin isin) (cond a (s ∷ xs) (x ∷ with_security s xs))) ≡ true
+        → is_some (cond b (Some x) (find (λ y. same_isin y.isin isin) xs)) ≡ true
+        → (is_some (find (λ y. same_isin y.isin isin) xs) ≡ true → is_some (find (λ y. same_isin y.isin isin) (with_security s xs)) ≡ true)
+        → is_some (find (λ y. same_isin y.isin isin) (cond a (s ∷ xs) (x ∷ with_security s xs))) ≡ true
     by_tests true true f g h later =
         let same : x.isin.bytes ≡ s.isin.bytes = (bytes_eq-Decides x.isin.bytes s.isin.bytes).0 f in
         let here : same_isin s.isin isin ≡ true = subst (λ (bytes : List ℕ). bytes_eq bytes isin.bytes ≡ true) same g in
-        ap (λ (c : Bool). is_some (cond c (Some s) (first_of (λ y. same_isin y.isin isin) xs))) here
-    by_tests true false f g h later = found_more (same_isin s.isin isin) s (first_of (λ y. same_isin y.isin isin) xs) h
-    by_tests false true f g h later = ap (λ (c : Bool). is_some (cond c (Some x) (first_of (λ y. same_isin y.isin isin) (with_security s xs)))) g
+        ap (λ (c : Bool). is_some (cond c (Some s) (find (λ y. same_isin y.isin isin) xs))) here
+    by_tests true false f g h later = found_more (same_isin s.isin isin) s (find (λ y. same_isin y.isin isin) xs) h
+    by_tests false true f g h later = ap (λ (c : Bool). is_some (cond c (Some x) (find (λ y. same_isin y.isin isin) (with_security s xs)))) g
     by_tests false false f g h later =
-        found_more (same_isin x.isin isin) x (first_of (λ y. same_isin y.isin isin) (with_security s xs)) (later h)
+        found_more (same_isin x.isin isin) x (find (λ y. same_isin y.isin isin) (with_security s xs)) (later h)
 
 -- one more is held at most, and none where one of its ISIN was
 length_with_security : (s : Security) (xs : List Security)
     → (length (with_security s xs) ≤ length xs + 1)
-    × (is_some (first_of (λ x. same_isin x.isin s.isin) xs) ≡ true → length (with_security s xs) ≡ length xs)
+    × (is_some (find (λ x. same_isin x.isin s.isin) xs) ≡ true → length (with_security s xs) ≡ length xs)
 length_with_security s [] = (omega arith, λ e. absurd cc)
 length_with_security s (x ∷ xs) = by_test (same_isin x.isin s.isin) (length_with_security s xs)
   where
     by_test : (b : Bool)
         → (length (with_security s xs) ≤ length xs + 1)
-        × (is_some (first_of (λ y. same_isin y.isin s.isin) xs) ≡ true → length (with_security s xs) ≡ length xs)
+        × (is_some (find (λ y. same_isin y.isin s.isin) xs) ≡ true → length (with_security s xs) ≡ length xs)
         → (length (cond b (s ∷ xs) (x ∷ with_security s xs)) ≤ length (x ∷ xs) + 1)
-        × (is_some (cond b (Some x) (first_of (λ y. same_isin y.isin s.isin) xs)) ≡ true
+        × (is_some (cond b (Some x) (find (λ y. same_isin y.isin s.isin) xs)) ≡ true
         → length (cond b (s ∷ xs) (x ∷ with_security s xs)) ≡ length (x ∷ xs))
     by_test true rest = (omega arith, λ e. refl)
     by_test false rest = (omega (arith, rest.0), λ e. omega (arith, rest.1 e))

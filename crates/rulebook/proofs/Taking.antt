@@ -1,6 +1,6 @@
 -- A call that is taken keeps the count of codes and lines.
-use Rattle.std.proofs.Common.{◌≡◌, ℕ, suc, ◌+◌, true, false, List, [], ◌∷◌, ◌++◌, map, length, take, Some, None, Ok, Err, filter, Option, Result, sym, refl, ap, ◌∙◌, subst, append_assoc, append-nil, arith}
-use Rattle.std.specs.List.{AllByRecursion as All}
+use Rattle.std.proofs.Common.{◌≡◌, ℕ, ◌+◌, true, false, List, [], ◌∷◌, ◌++◌, map, length, take, Some, None, Ok, Err, filter, Option, Result, sym, refl, ap, ◌∙◌, subst, append_assoc, append-nil, arith}
+use Rattle.std.specs.List.{range_with_len, AllByRecursion as All}
 use Rattle.std.proofs.ByRecursion.{All-weaker, all_kept_by}
 use Rattle.std.proofs.lemmas.List.{length-map, map-append}
 use Rattle.std.proofs.lemmas.Bool.{cond_both}
@@ -14,32 +14,31 @@ use Rattle.report.specs.declared.report.Report.{Report}
 use Rattle.rulebook.specs.declared.call.Call.{Call}
 use Rattle.rulebook.specs.declared.call.Call.TheVariants.{List as Listing, Advance, Open, Enter, Amend, Cancel, CarryAway, Figures}
 use Rattle.rulebook.specs.declared.record.Record.{Record}
-use Rattle.rulebook.specs.Lists.{numbers, and_then, where_some}
+use Rattle.rulebook.specs.Lists.{and_then, where_some}
 use Rattle.rulebook.specs.Notebook.{Rules, Notebook, same_code, of_day, record_of, security_of, latest, latest_day, next_code, among, is_due, is_published, published_before}
 use Rattle.rulebook.specs.Lines.{due_now, due_lines, told_from, recalled, recall_lines}
 use Rattle.rulebook.specs.Taken.{settled, without, withdrawn, with_new, day_opened, fresh, entered, amended, noted, withdrawal_lines, after_call, lines_of}
 use Rattle.rulebook.specs.Desk.{Desk}
 use Rattle.rulebook.specs.Grounds.{ground, open_grounds}
-use Rattle.rulebook.proofs.Codes.{codes_of, changed_codes, published_codes, kept_codes, all_coded, all_in_order, and_first, and_any, all_first}
+use Rattle.rulebook.proofs.Codes.{codes_of, changed_codes, published_codes, kept_codes, all_coded, and_first, and_any, all_first}
 use Rattle.rulebook.proofs.Numbering.{numbers_on_map}
 use Rattle.rulebook.proofs.Grounds.{none_there}
-use Rattle.rulebook.proofs.Openings.{opened_noted, not_early}
+use Rattle.rulebook.proofs.Openings.{not_early}
 use Rattle.rulebook.proofs.Reaching.{Reached, Past, latest_reached, serials_on, Coded, Lined, coded_more, lined_more, coded_opened, lined_opened}
+use Rattle.rulebook.proofs.Ordered.{all_in_order}
+use Rattle.rulebook.proofs.LinesWritten.{length_told}
+use Rattle.rulebook.proofs.Days.{noted_day, next_later}
 
 -- a notebook, and all lines written since it was new
 pub record Well (nb : Notebook) (lines : List Line) : Type 0 where
   pub coded : Coded nb.days (codes_of nb.records)
   pub lined : Lined nb.days nb.written lines
 
-told_length : (day number : ℕ) (ts : List Record) → length (told_from day number ts) ≡ length ts
-told_length day number [] = refl
-told_length day number (t ∷ ts) = ap suc (told_length day (number + 1) ts)
-
 told_on : (day number : ℕ) (ts : List Record) → All (λ l. l.place.day ≡ day) (told_from day number ts)
 told_on day number [] = tt
 told_on day number (t ∷ ts) = (refl, told_on day (number + 1) ts)
 
-told_numbers : (day number : ℕ) (ts : List Record) → map (λ l. l.place.number) (told_from day number ts) ≡ numbers number (length (told_from day number ts))
+told_numbers : (day number : ℕ) (ts : List Record) → map (λ l. l.place.number) (told_from day number ts) ≡ range_with_len number (length (told_from day number ts))
 told_numbers day number [] = refl
 told_numbers day number (t ∷ ts) = ap (λ (ns : List ℕ). number ∷ ns) (told_numbers day (number + 1) ts)
 
@@ -63,15 +62,15 @@ settled_well nb lines h =
     record {
       coded = subst (Coded nb.days) (sym (published_codes day (nb.written + 1) due nb.records)) h.coded;
       lined =
-          subst (λ (n : ℕ). Lined nb.days (nb.written + n) (lines ++ due_lines nb)) (told_length day (nb.written + 1) due)
+          subst (λ (n : ℕ). Lined nb.days (nb.written + n) (lines ++ due_lines nb)) (length_told day (nb.written + 1) due)
           (lined_more nb.days nb.written lines (due_lines nb) h.lined (told_reached nb.days day (nb.written + 1) due some)
           (told_on day (nb.written + 1) due) (told_numbers day (nb.written + 1) due));
     }
 
-recalled_numbers : (nb : Notebook) (o : Option Record) → map (λ l. l.place.number) (where_some o (recalled nb)) ≡ numbers (nb.written + 1) (length (where_some o (recalled nb)))
+recalled_numbers : (nb : Notebook) (o : Option Record) → map (λ l. l.place.number) (where_some o (recalled nb)) ≡ range_with_len (nb.written + 1) (length (where_some o (recalled nb)))
 recalled_numbers nb None = refl
 recalled_numbers nb (Some t) =
-    cond_both (is_published t.state) _ [] (λ ls. map (λ l. l.place.number) ls ≡ numbers (nb.written + 1) (length ls)) (λ e. refl) (λ e. refl)
+    cond_both (is_published t.state) _ [] (λ ls. map (λ l. l.place.number) ls ≡ range_with_len (nb.written + 1) (length ls)) (λ e. refl) (λ e. refl)
 
 recalled_on : (nb : Notebook) (o : Option Record) → All (λ l. l.place.day ≡ latest_day nb.days) (where_some o (recalled nb))
 recalled_on nb None = tt
@@ -143,12 +142,12 @@ pub opened_well : (m : Meaning) (day : ℕ) (r : Result Opened Refusal) (nb : No
     → Well nb lines → Well (day_opened r nb) lines
 opened_well m day (Err r) nb lines e past h = h
 opened_well m day (Ok o) nb lines e past h =
-    let n = opened_noted m day o e in
-    let later : Past nb.days o.day = subst (Past nb.days) (sym n.is) past in
+    let n = noted_day m day o e in
+    let later : Past nb.days o.day = subst (Past nb.days) (sym n.0) past in
     record {
       coded =
           subst (Coded (take 3 (o ∷ nb.days))) (sym (kept_codes (λ c. among (take 3 (o ∷ nb.days)) c.day) nb.records))
-          (coded_opened nb.days (codes_of nb.records) o h.coded later n.onward);
+          (coded_opened nb.days (codes_of nb.records) o h.coded later (next_later m o n.1));
       lined = lined_opened nb.days nb.written lines o h.lined later;
     }
 

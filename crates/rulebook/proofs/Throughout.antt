@@ -1,8 +1,7 @@
 -- After every lawful history codes and line numbers have no gaps.
-use Rattle.std.proofs.Common.{◌≡◌, Bool, true, false, cond, List, [], ◌∷◌, ◌++◌, is_some, None, sym, refl, ap, ◌∙◌, subst, append_assoc, append-nil}
+use Rattle.std.proofs.Common.{◌≡◌, Bool, true, false, cond, List, [], ◌∷◌, ◌++◌, is_some, None, sym, refl, ap, ◌∙◌, subst, append_assoc, append-nil, rules}
 use Rattle.report.specs.declared.line.Line.{Line}
 use Rattle.rulebook.specs.declared.call.Call.{Call}
-use Rattle.rulebook.specs.declared.call.Call.TheVariants.{List as Listing, Advance, Open, Enter, Amend, Cancel, CarryAway, Figures}
 use Rattle.rulebook.specs.Notebook.{Rules, blank}
 use Rattle.rulebook.specs.Taken.{lines_of}
 use Rattle.rulebook.specs.Desk.{Desk, new_desk, taken, carries, keeps}
@@ -22,14 +21,7 @@ blank_well =
 
 -- what a call carries away and what it leaves is what stood
 carried_or_kept : (call : Call) (standing : List Line) → carries call standing ++ keeps call standing ≡ standing
-carried_or_kept (Listing s) standing = refl
-carried_or_kept (Advance moment) standing = refl
-carried_or_kept Open standing = refl
-carried_or_kept (Enter r) standing = refl
-carried_or_kept (Amend code r) standing = refl
-carried_or_kept (Cancel member code) standing = refl
-carried_or_kept (CarryAway room) standing = append-nil standing
-carried_or_kept (Figures isin day sheet) standing = refl
+carried_or_kept call standing = search (rules, append-nil)
 
 taken_well : (rules : Rules) (d : Desk) (call : Call) (before : List Line) → ground rules d call ≡ None → Well d.notebook (before ++ d.standing)
     → Well (taken rules d call).notebook ((before ++ carries call d.standing) ++ (taken rules d call).standing)

@@ -1,31 +1,29 @@
 -- How many lines have told of the trades held: the number never falls, and rises with each line.
 use Rattle.std.proofs.Common.{◌≡◌, ℕ, ◌+◌, ◌≤◌, Bool, true, false, cond, ◌&&◌, leb, List, [], ◌∷◌, map, length, Some, sum_by, count_by, filter, refl, ap, ◌∙◌, arith}
-use Rattle.std.specs.List.{AllByRecursion as All}
+use Rattle.std.specs.List.{find, AllByRecursion as All}
 use Rattle.std.proofs.lemmas.List.{length-map}
 use Rattle.std.proofs.lemmas.List.Sums.{sum_by-cons, length-filter}
-use Rattle.std.proofs.lemmas.Bool.{cond_both, cond-false}
+use Rattle.std.proofs.lemmas.Bool.{cond_both}
+use Rattle.std.proofs.lemmas.Bool.Decides.{nat_tests}
 use Rattle.report.specs.declared.line.Place.{Place}
 use Rattle.report.specs.declared.report.Code.{Code}
 use Rattle.report.specs.declared.state.Event.TheVariants.{Due, Withdrawn}
 use Rattle.report.specs.declared.state.State.{State}
-use Rattle.report.specs.declared.state.State.TheVariants.{Waiting, Published, Dropped, Recalled}
 use Rattle.report.specs.States.{after}
 use Rattle.rulebook.specs.declared.record.Record.{Record}
-use Rattle.rulebook.specs.Lists.{first_of, where_some, put_in, in_order}
+use Rattle.rulebook.specs.Lists.{where_some, put_in, in_order}
 use Rattle.rulebook.specs.Notebook.{Notebook, same_code, waits, is_published, is_due, latest_day, published_before}
-use Rattle.rulebook.specs.Lines.{due_now, due_lines, told_from, recall_line, recalled, place_at}
+use Rattle.rulebook.specs.Lines.{due_now, due_lines, told_from, recalled}
 use Rattle.rulebook.specs.Sound.{told_of}
 use Rattle.rulebook.specs.Taken.{changed, met, withdrawn, published_from, settled}
 use Rattle.rulebook.proofs.Settled.{none_due_settled}
+use Rattle.rulebook.proofs.Sieves.{kept_none}
+use Rattle.rulebook.proofs.LinesWritten.{one_or_none}
 
 -- an order changes no length
 length_put_in : {X : Type 0} (before : X → X → Bool) (x : X) (ys : List X) → length (put_in before x ys) ≡ length ys + 1
 length_put_in before x [] = refl
-length_put_in {X} before x (y ∷ ys) = by_order (before x y) (length_put_in before x ys)
-  where
-    by_order : (b : Bool) → length (put_in before x ys) ≡ length ys + 1 → length (cond b (x ∷ y ∷ ys) (y ∷ put_in before x ys)) ≡ length (y ∷ ys) + 1
-    by_order true e = omega arith
-    by_order false e = omega arith
+length_put_in before x (y ∷ ys) = grind (arith, nat_tests, length_put_in before x ys)
 
 pub length_in_order : {X : Type 0} (before : X → X → Bool) (xs : List X) → length (in_order before xs) ≡ length xs
 length_in_order before [] = refl
@@ -41,10 +39,7 @@ abbrev pub told : Record → ℕ
 told t = told_of t.state
 
 withdrawal_tells : (s : State) → told_of s + cond (is_published s) 1 0 ≤ told_of (after s Withdrawn)
-withdrawal_tells Waiting = omega arith
-withdrawal_tells Published = omega arith
-withdrawal_tells Dropped = omega arith
-withdrawal_tells Recalled = omega arith
+withdrawal_tells s = grind (arith, nat_tests)
 
 withdrawal_rises : (code : Code) (ts : List Record) → sum_by told ts ≤ sum_by told (changed code withdrawn ts)
 withdrawal_rises code ts =
@@ -53,21 +48,17 @@ withdrawal_rises code ts =
     (λ e. omega (arith, withdrawal_tells t.state)) (λ e. omega arith)) ts
 
 recalled_length : (nb : Notebook) (t : Record) → length (recalled nb t) ≡ cond (is_published t.state) 1 0
-recalled_length nb t = by_test (is_published t.state)
-  where
-    by_test : (b : Bool) → length (cond b (recall_line (place_at nb (nb.written + 1)) nb.clock t ∷ []) []) ≡ cond b 1 0
-    by_test true = refl
-    by_test false = refl
+recalled_length nb t = one_or_none (is_published t.state) _
 
 -- a withdrawal that writes a line counts it
 pub recalled_told : (nb : Notebook) (code : Code) (ts : List Record)
-    → sum_by told ts + length (where_some (first_of (λ t. same_code t.code code) ts) (recalled nb)) ≤ sum_by told (changed code withdrawn ts)
+    → sum_by told ts + length (where_some (find (λ t. same_code t.code code) ts) (recalled nb)) ≤ sum_by told (changed code withdrawn ts)
 recalled_told nb code [] = omega arith
 recalled_told nb code (t ∷ ts) = by_test (same_code t.code code) (recalled_told nb code ts)
   where
     by_test : (b : Bool)
-        → sum_by told ts + length (where_some (first_of (λ u. same_code u.code code) ts) (recalled nb)) ≤ sum_by told (changed code withdrawn ts)
-        → sum_by told (t ∷ ts) + length (where_some (cond b (Some t) (first_of (λ u. same_code u.code code) ts)) (recalled nb))
+        → sum_by told ts + length (where_some (find (λ u. same_code u.code code) ts) (recalled nb)) ≤ sum_by told (changed code withdrawn ts)
+        → sum_by told (t ∷ ts) + length (where_some (cond b (Some t) (find (λ u. same_code u.code code) ts)) (recalled nb))
         ≤ sum_by told (cond b (withdrawn t) t ∷ changed code withdrawn ts)
     by_test true rest =
         omega (
@@ -89,11 +80,7 @@ due_tells clock p t = by_state t.state (leb t.moment clock)
   where
     by_state : (s : State) (b : Bool)
         → told_of s + cond (waits s && b) 1 0 ≤ told_of (after s Due) + cond (waits (after s Due) && b) 1 0
-    by_state Waiting true = omega arith
-    by_state Waiting false = omega arith
-    by_state Published b = omega arith
-    by_state Dropped b = omega arith
-    by_state Recalled b = omega arith
+    by_state s b = grind (arith, nat_tests)
 
 published_rises : (clock day number : ℕ) (ds ts : List Record) → sum_by (told_soon clock) ts ≤ sum_by (told_soon clock) (published_from day number ds ts)
 published_rises clock day number [] ts = omega arith
@@ -110,17 +97,13 @@ told_and_due clock [] = refl
 told_and_due clock (t ∷ ts) =
     omega (arith, sum_by-cons (told_soon clock) t ts, sum_by-cons told t ts, sum_by-cons (λ u. cond (is_due clock u) 1 0) t ts, told_and_due clock ts)
 
-none_kept : {X : Type 0} (p : X → Bool) (xs : List X) → All (λ x. p x ≡ false) xs → filter p xs ≡ []
-none_kept p [] all = refl
-none_kept {X} p (x ∷ xs) all = cond-false (p x) (x ∷ filter p xs) (filter p xs) all.0 ∙ none_kept p xs all.1
-
 -- every line that tells of a trade that is due is counted
 pub settled_told : (nb : Notebook) → sum_by told nb.records + length (due_now nb) ≤ sum_by told (settled nb).records
 settled_told nb =
     let clock : ℕ = nb.clock in
     let rises = published_rises clock (latest_day nb.days) (nb.written + 1) (due_now nb) nb.records in
     let none : length (filter (is_due clock) (settled nb).records) ≡ 0 =
-    ap length (none_kept (is_due clock) (settled nb).records (none_due_settled nb)) in
+    ap length (kept_none (is_due clock) (settled nb).records (none_due_settled nb)) in
     omega (
       arith,
       rises,
@@ -136,7 +119,7 @@ settled_told nb =
 pub none_due_lines : (nb : Notebook) → All (λ t. is_due nb.clock t ≡ false) nb.records → due_lines nb ≡ []
 none_due_lines nb all =
     ap (λ (ts : List Record). told_from (latest_day nb.days) (nb.written + 1) (in_order published_before ts))
-    (none_kept (is_due nb.clock) nb.records all)
+    (kept_none (is_due nb.clock) nb.records all)
 
 -- neither publication nor withdrawal changes how many trades are held
 pub length_published : (day number : ℕ) (ds ts : List Record) → length (published_from day number ds ts) ≡ length ts

@@ -1,11 +1,10 @@
 -- Two lists of trades that are equal, but for pairs of one code of which a fact is known.
 use Rattle.std.proofs.Common.{◌≡◌, ℕ, suc, ◌+◌, Bool, true, false, cond, List, [], ◌∷◌, ◌++◌, length, Some, None, filter, Option, sym, refl, ap, ◌∙◌, subst}
-use Rattle.std.specs.List.{AllByRecursion as All}
+use Rattle.std.specs.List.{find, AllByRecursion as All}
 use Rattle.std.proofs.lemmas.Bool.{true≢false, false≢true}
 use Rattle.report.specs.declared.report.Code.{Code}
 use Rattle.report.specs.declared.state.Event.TheVariants.{Due}
 use Rattle.rulebook.specs.declared.record.Record.{Record}
-use Rattle.rulebook.specs.Lists.{first_of}
 use Rattle.rulebook.specs.Notebook.{same_code}
 use Rattle.rulebook.specs.Taken.{changed, met, published_from}
 
@@ -84,7 +83,7 @@ pub data Found (P : Code → Type 0) (R : Record → Type 0) (S : Record → Typ
   two : {x y : Record} → R x → S y → x.code ≡ y.code → P x.code → P y.code → Found P R S (Some x) (Some y)
 
 pub each_found : {P : Code → Type 0} {R S : Record → Type 0} {xs ys : List Record} (q : Code → Bool) → Each P xs ys → All R xs → All S ys
-    → Found P R S (first_of (λ t. q t.code) xs) (first_of (λ t. q t.code) ys)
+    → Found P R S (find (λ t. q t.code) xs) (find (λ t. q t.code) ys)
 each_found q end u v = neither
 each_found {P} {R} {S} q (like {x = x} {xs = xs} {ys = ys} r) u v = go (q x.code) (each_found q r u.1 v.1) where
   go : (b : Bool) {s t : Option Record} → Found P R S s t → Found P R S (cond b (Some x) s) (cond b (Some x) t)

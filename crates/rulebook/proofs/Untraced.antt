@@ -19,7 +19,7 @@ use Rattle.refusal.specs.declared.Refusal.{Refusal}
 use Rattle.refusal.specs.Grounds.{first_ground, unless}
 use Rattle.report.specs.declared.figures.Figures.{Figures}
 use Rattle.rulebook.specs.declared.call.Answer.TheVariants.{Counted}
-use Rattle.rulebook.proofs.Always.{none_from}
+use Rattle.rulebook.proofs.Always.{none_from, fed_append}
 use Rattle.rulebook.proofs.Dated.{deadlines_on, dated}
 use Rattle.rulebook.proofs.Held.{first_has}
 use Rattle.rulebook.proofs.Unlike.{end}
@@ -33,10 +33,6 @@ record Past (rules : Rules) (d : Desk) : Type 0 where
   is : desk_after rules history ≡ d
   lawful : Lawful rules history
 
-fed_push : (rules : Rules) (d : Desk) (h : History) (e : Entry) → fed rules d (h ++ e ∷ []) ≡ step rules (fed rules d h) e
-fed_push rules d [] e = refl
-fed_push rules d (x ∷ h) e = fed_push rules (step rules d x) h e
-
 rightly_push : (rules : Rules) (d : Desk) (h : History) (e : Entry) → Rightly rules d h → e.refused ≡ is_some (ground rules (fed rules d h) e.call) → Rightly rules d (h ++ e ∷ [])
 rightly_push rules d [] e k i = (i, tt)
 rightly_push rules d (x ∷ h) e k i = (k.0, rightly_push rules (step rules d x) h e k.1 i)
@@ -44,7 +40,7 @@ rightly_push rules d (x ∷ h) e k i = (k.0, rightly_push rules (step rules d x)
 past_step : {rules : Rules} {d : Desk} (e : Entry) → Past rules d → e.refused ≡ is_some (ground rules d e.call) → Past rules (step rules d e)
 past_step {rules} {d} e p i = record {
   history = p.history ++ e ∷ [];
-  is = fed_push rules new_desk p.history e ∙ ap (λ (x : Desk). step rules x e) p.is;
+  is = fed_append rules new_desk p.history (e ∷ []) ∙ ap (λ (x : Desk). step rules x e) p.is;
   lawful = rightly_push rules new_desk p.history e p.lawful (i ∙ ap (λ (x : Desk). is_some (ground rules x e.call)) (sym p.is));
 }
 

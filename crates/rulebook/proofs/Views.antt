@@ -1,17 +1,15 @@
 -- The trades of a security and a day, and those of them that pass a test, seen by code and report alone.
-use Rattle.std.proofs.Common.{◌≡◌, ℕ, ◌+◌, Bool, true, false, cond, not, ◌&&◌, ◌⊎◌, List, [], ◌∷◌, map, Some, filter, Option, sym, refl, ap, ◌∙◌, subst, inl, inr}
-use Rattle.std.specs.List.{ContainsAt as Has, AllByRecursion as All}
-use Rattle.std.proofs.ByRecursion.{All-weaker, all_has_itself, all_kept_by, kept_by_passes}
+use Rattle.std.proofs.Common.{◌≡◌, ℕ, ◌+◌, Bool, true, false, cond, not, ◌&&◌, ◌⊎◌, List, [], ◌∷◌, map, Some, filter, Option, sym, refl, ap, ◌∙◌, subst, inl, inr, rules, arith}
+use Rattle.std.specs.List.{find, ContainsAt as Has, AllByRecursion as All}
+use Rattle.std.proofs.ByRecursion.{all_has_itself, all_kept_by, kept_by_passes}
 use Rattle.std.proofs.lemmas.Bool.{both_ways, and_right, not_from_true}
 use Rattle.report.specs.declared.figures.Sheet.{Sheet}
 use Rattle.report.specs.declared.line.Place.{Place}
 use Rattle.report.specs.declared.report.Code.{Code}
 use Rattle.report.specs.declared.state.Event.TheVariants.{Due}
-use Rattle.report.specs.declared.state.State.{State}
-use Rattle.report.specs.declared.state.State.TheVariants.{Waiting, Published, Dropped, Recalled}
-use Rattle.report.specs.States.{after, survives}
+use Rattle.report.specs.States.{survives}
 use Rattle.rulebook.specs.declared.record.Record.{Record}
-use Rattle.rulebook.specs.Lists.{first_of, passes}
+use Rattle.rulebook.specs.Lists.{passes}
 use Rattle.rulebook.specs.Notebook.{Notebook, same_code, same_isin, of_day, is_published}
 use Rattle.rulebook.specs.Former.{is_on}
 use Rattle.rulebook.specs.Sheets.{counts, counted, on_sheet}
@@ -19,7 +17,7 @@ use Rattle.rulebook.specs.Taken.{changed, met, published_from}
 use Rattle.rulebook.proofs.Apart.{Apart, one_of, same_code_is}
 use Rattle.rulebook.proofs.Codes.{codes_of, changed_codes}
 use Rattle.rulebook.proofs.Plain.{plain}
-use Rattle.rulebook.proofs.Sieves.{all_of, all_both, kept_same, kept_both, kept_map, first_cases}
+use Rattle.rulebook.proofs.Sieves.{all_of, all_two, kept_same, kept_both, kept_map, first_cases}
 
 -- a trade of the security and day of another
 abbrev pub beside : Record → Record → Bool
@@ -46,8 +44,7 @@ counted_is t nb sheet =
     ∙ kept_both (beside t) (λ u. counts sheet u.state) nb.records
   where
     regroup : (a b c : Bool) → (a && (b && c)) ≡ ((a && b) && c)
-    regroup true b c = refl
-    regroup false b c = refl
+    regroup a b c = search rules
 
 -- what keeps code and report
 abbrev pub Plainly : Record → (Record → Record) → Type 0
@@ -74,14 +71,11 @@ on_published t day number (d ∷ ds) ts =
 -- a code that none of them has
 pub changed_none : (code : Code) (f : Record → Record) (ts : List Record) → All (λ u. same_code u.code code ≡ false) ts → changed code f ts ≡ ts
 changed_none code f [] h = refl
-changed_none code f (t ∷ ts) (e, h) =
-    ap (λ (b : Bool). cond b (f t) t ∷ changed code f ts) e ∙ ap (λ (us : List Record). t ∷ us) (changed_none code f ts h)
+changed_none code f (t ∷ ts) (e, h) = simp (e, changed_none code f ts h)
 
 plain_changed : (t : Record) (code : Code) (f : Record → Record) → Plainly t f → (ts : List Record) → map (plain t) (changed code f ts) ≡ map (plain t) ts
 plain_changed t code f same [] = refl
-plain_changed t code f same (u ∷ us) =
-    ap (λ (x : Record). x ∷ map (plain t) (changed code f us)) (one_changed t f same (same_code u.code code) u)
-    ∙ ap (λ (x : List Record). plain t u ∷ x) (plain_changed t code f same us)
+plain_changed t code f same (u ∷ us) = grind (arith, one_changed t f same (same_code u.code code) u, plain_changed t code f same us)
 
 -- what passes of the changed ones
 pub view_of_changed : (t : Record) (s : Record → Bool) (code : Code) (f : Record → Record) → Plainly t f → (us : List Record)
@@ -99,17 +93,7 @@ view_changed t s code f same ts h =
 
 -- a trade that falls due survives as it did
 pub survives_due : (b : Bool) (place : Place) (u : Record) → surviving (cond b (met Due place u) u) ≡ surviving u
-survives_due b place u = by_cases b
-  where
-    states : (x : State) → survives (after x Due) ≡ survives x
-    states Waiting = refl
-    states Published = refl
-    states Dropped = refl
-    states Recalled = refl
-
-    by_cases : (b : Bool) → surviving (cond b (met Due place u) u) ≡ surviving u
-    by_cases true = states u.state
-    by_cases false = refl
+survives_due b place u = search rules
 
 pub full_settled : (t : Record) (day number : ℕ) (ds ts : List Record) → view t surviving (published_from day number ds ts) ≡ view t surviving ts
 full_settled t day number [] ts = refl
@@ -161,20 +145,19 @@ false_unless false h = refl
 pub elsewhere : (t : Record) (ts : List Record) → Apart (codes_of ts) → (u : Record) → Has ts u → beside t u ≡ false
     → All (λ v. same_code v.code u.code ≡ false) (on_list t ts)
 elsewhere t ts apart u has off =
-    All-weaker (λ v. Has ts v × (beside t v ≡ true)) (λ v. same_code v.code u.code ≡ false)
-    (λ v h. false_unless (same_code v.code u.code) (λ e.
-    let same : v ≡ u = one_of ts apart v u h.0 has (same_code_is v.code u.code e) in
-    both_ways (beside t u) off (ap (beside t) (sym same) ∙ h.1)))
-    (on_list t ts)
-    (all_both (Has ts) (λ v. beside t v ≡ true) (on_list t ts) (all_kept_by (beside t) (Has ts) ts (all_has_itself ts)) (kept_by_passes (beside t) ts))
+    all_two (Has ts) (λ v. beside t v ≡ true) (λ v. same_code v.code u.code ≡ false)
+    (λ v there on. false_unless (same_code v.code u.code) (λ e.
+    let same : v ≡ u = one_of ts apart v u there has (same_code_is v.code u.code e) in
+    both_ways (beside t u) off (ap (beside t) (sym same) ∙ on)))
+    (on_list t ts) (all_kept_by (beside t) (Has ts) ts (all_has_itself ts)) (kept_by_passes (beside t) ts)
 
 -- nor does a code whose trade, where there is one, is not beside them
-pub untouched : (t : Record) (ts : List Record) → Apart (codes_of ts) → (code : Code) → passes (beside t) (first_of (λ u. same_code u.code code) ts) ≡ false
+pub untouched : (t : Record) (ts : List Record) → Apart (codes_of ts) → (code : Code) → passes (beside t) (find (λ u. same_code u.code code) ts) ≡ false
     → All (λ v. same_code v.code code ≡ false) (on_list t ts)
 untouched t ts apart code h = by_cases (first_cases (λ u. same_code u.code code) ts)
   where
     by_cases : All (λ u. same_code u.code code ≡ false) ts
-        ⊎ ((u : Record) × (first_of (λ v. same_code v.code code) ts ≡ Some u) × Has ts u × (same_code u.code code ≡ true))
+        ⊎ ((u : Record) × (find (λ v. same_code v.code code) ts ≡ Some u) × Has ts u × (same_code u.code code ≡ true))
         → All (λ v. same_code v.code code ≡ false) (on_list t ts)
     by_cases (inl none) = all_kept_by (beside t) (λ v. same_code v.code code ≡ false) ts none
     by_cases (inr (u, f, has, e)) =

@@ -1,13 +1,13 @@
 -- What the call that takes a trade and the call that withdraws it do to the trades beside it.
-use Rattle.std.proofs.Common.{◌≡◌, Bool, true, false, cond, not, ◌&&◌, eqb, List, [], ◌∷◌, ◌++◌, map, Some, None, filter, Option, sym, refl, ap, ◌∙◌}
+use Rattle.std.proofs.Common.{◌≡◌, Bool, false, cond, not, ◌&&◌, eqb, List, [], ◌∷◌, ◌++◌, map, Some, None, filter, Option, sym, refl, ap, ◌∙◌, rules, arith}
 use Rattle.std.proofs.lemmas.List.Elements.{filter-append}
 use Rattle.std.proofs.ByRecursion.{All-weaker}
 use Rattle.std.proofs.lemmas.List.{map-append}
-use Rattle.std.proofs.lemmas.Bool.{and_left, and_right, both_ways, ne_eqb, not-false}
+use Rattle.std.proofs.lemmas.Bool.{and_left, both_ways, ne_eqb, not-false}
+use Rattle.std.proofs.lemmas.Bool.Decides.{nat_tests}
 use Rattle.report.specs.declared.report.Code.{Code}
 use Rattle.report.specs.declared.state.Event.TheVariants.{Withdrawn as Withdrawing}
 use Rattle.report.specs.declared.state.State.{State}
-use Rattle.report.specs.declared.state.State.TheVariants.{Waiting, Published, Dropped, Recalled}
 use Rattle.report.specs.States.{after, survives}
 use Rattle.rulebook.specs.declared.call.Call.{Call}
 use Rattle.rulebook.specs.declared.call.Call.TheVariants.{List as Listing, Advance, Open, Enter, Amend, Cancel, CarryAway, Figures}
@@ -100,10 +100,7 @@ not_lost t rules d (Figures isin day sheet) e g lost = cc
 
 -- a trade that is withdrawn does not survive, whatever its state
 pub withdrawn_gone : (x : State) → survives (after x Withdrawing) ≡ false
-withdrawn_gone Waiting = refl
-withdrawn_gone Published = refl
-withdrawn_gone Dropped = refl
-withdrawn_gone Recalled = refl
+withdrawn_gone x = search rules
 
 pub survivors_but : (t : Record) (us : List Record)
     → map (plain t) (filter surviving (changed t.code withdrawn us)) ≡ filter (λ u. not (same_code u.code t.code)) (map (plain t) (filter surviving us))
@@ -116,6 +113,4 @@ survivors_but t us =
     ∙ sym (kept_map but (plain t) (filter surviving us))
   where
     by_cases : (u : Record) (b s : Bool) → surviving u ≡ s → surviving (cond b (withdrawn u) u) ≡ (surviving u && not b)
-    by_cases u true s e = withdrawn_gone u.state ∙ sym (and_right (surviving u) false refl)
-    by_cases u false true e = e ∙ sym (ap (λ (x : Bool). x && true) e)
-    by_cases u false false e = e ∙ sym (ap (λ (x : Bool). x && true) e)
+    by_cases u b s e = grind (arith, nat_tests, withdrawn_gone u.state)

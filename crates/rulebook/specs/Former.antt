@@ -1,5 +1,6 @@
 -- A withdrawn trade leaves its sheets as they were before it.
 use Rattle.std.specs.Prelude.{◌≡◌, ℕ, Bool, false, not, ◌&&◌, [], ◌∷◌, ◌++◌, Some, None, Option}
+use Rattle.std.specs.List.{list_any}
 use Rattle.calendar.specs.Meaning.{Lawful as Kept}
 use Rattle.identifier.specs.declared.isin.Isin.{Isin}
 use Rattle.report.specs.declared.figures.Sheet.TheVariants.{Full, Public}
@@ -7,7 +8,7 @@ use Rattle.report.specs.declared.report.Code.{Code}
 use Rattle.rulebook.specs.declared.call.Call.{Call}
 use Rattle.rulebook.specs.declared.call.Call.TheVariants.{List as Listing, Advance, Open, Enter, Amend, Cancel, CarryAway, Figures}
 use Rattle.rulebook.specs.declared.record.Record.{Record}
-use Rattle.rulebook.specs.Lists.{some_of, passes, and_then}
+use Rattle.rulebook.specs.Lists.{passes, and_then}
 use Rattle.rulebook.specs.Notebook.{Rules, Notebook, same_isin, same_code, of_day, record_of}
 use Rattle.rulebook.specs.Lines.{due_now}
 use Rattle.rulebook.specs.Taken.{new_record, noted}
@@ -40,7 +41,7 @@ takes_from nb isin day call = passes (is_on isin day) (and_then (withdraws call)
 -- it publishes a trade of that security and day, other than the trade of a code
 abbrev pub publishes_on : Rules → Notebook → Isin → ℕ → Code → Call → Bool
 publishes_on rules nb isin day code call =
-    some_of (λ t. is_on isin day t && not (same_code t.code code)) (due_now (noted rules nb call))
+    list_any (λ t. is_on isin day t && not (same_code t.code code)) (due_now (noted rules nb call))
 
 -- no call of the history that is taken brings or withdraws a trade of that security and day
 abbrev pub Untouched : Rules → Isin → ℕ → Desk → History → Type 0

@@ -1,14 +1,14 @@
 -- Codes and line numbers have no gaps.
 use Rattle.std.specs.Prelude.{◌≡◌, ℕ, List, map, length, filter, nat_eq}
+use Rattle.std.specs.List.{range_with_len}
 use Rattle.calendar.specs.Meaning.{Lawful as Kept}
 use Rattle.report.specs.declared.line.Line.{Line}
-use Rattle.rulebook.specs.Lists.{numbers}
 use Rattle.rulebook.specs.Notebook.{Rules, Notebook, of_day}
 use Rattle.rulebook.specs.Histories.{History, Lawful, notebook_after, tape}
 
 -- 1, 2, 3 .. to the end
 abbrev pub Counting : List ℕ → Type 0
-Counting ns = ns ≡ numbers 1 (length ns)
+Counting ns = ns ≡ range_with_len 1 (length ns)
 
 abbrev pub serials : Notebook → ℕ → List ℕ
 serials nb day = map (λ t. t.code.serial) (filter (of_day day) nb.records)

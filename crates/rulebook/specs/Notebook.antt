@@ -1,5 +1,6 @@
 -- The notebook: all that the calls taken so far have left, and what is read off it.
 use Rattle.std.specs.Prelude.{ℕ, ◌+◌, Bool, true, false, ◌&&◌, ◌||◌, List, [], ◌∷◌, length, Some, None, filter, Option, ◌==◌, nat_eq, nat_le, nat_lt}
+use Rattle.std.specs.List.{list_any, find}
 use Rattle.std.specs.Str.{bytes_eq}
 use Rattle.identifier.specs.declared.isin.Isin.{Isin}
 use Rattle.identifier.specs.declared.member.Member.{Member}
@@ -15,7 +16,7 @@ use Rattle.report.specs.declared.state.State.{State}
 use Rattle.report.specs.declared.state.State.TheVariants.{Waiting, Published, Dropped, Recalled}
 use Rattle.rulebook.specs.declared.call.Sizes.{Sizes}
 use Rattle.rulebook.specs.declared.record.Record.{Record}
-use Rattle.rulebook.specs.Lists.{first_of, some_of, passes}
+use Rattle.rulebook.specs.Lists.{passes}
 
 -- what a book is run by
 pub record Rules : Type 0 where
@@ -53,14 +54,14 @@ abbrev pub code_before : Code → Code → Bool
 code_before a b = nat_lt a.day b.day || (a.day == b.day && nat_lt a.serial b.serial)
 
 abbrev pub security_of : Notebook → Isin → Option Security
-security_of nb isin = first_of (λ s. same_isin s.isin isin) nb.securities
+security_of nb isin = find (λ s. same_isin s.isin isin) nb.securities
 
 abbrev pub record_of : Notebook → Code → Option Record
-record_of nb code = first_of (λ t. same_code t.code code) nb.records
+record_of nb code = find (λ t. same_code t.code code) nb.records
 
 -- is the day among these?
 abbrev pub among : List Opened → ℕ → Bool
-among days day = some_of (λ o. nat_eq o.day day) days
+among days day = list_any (λ o. nat_eq o.day day) days
 
 abbrev pub latest : List Opened → Option Opened
 latest [] = None

@@ -1,5 +1,6 @@
 -- The figures of a security's day, counted afresh from the notebook.
-use Rattle.std.specs.Prelude.{ℕ, ◌*◌, Bool, ◌&&◌, ◌||◌, List, length, Some, None, sum_by, filter, Option, ◌==◌, nat_lt}
+use Rattle.std.specs.Prelude.{ℕ, ◌*◌, Bool, ◌&&◌, ◌||◌, List, length, sum_by, filter, Option, ◌==◌, nat_lt}
+use Rattle.std.specs.Option.{option_map}
 use Rattle.identifier.specs.declared.isin.Isin.{Isin}
 use Rattle.report.specs.declared.figures.Figures.{Figures}
 use Rattle.report.specs.declared.figures.Sheet.{Sheet}
@@ -24,8 +25,7 @@ abbrev pub counted : Notebook → Isin → ℕ → Sheet → List Record
 counted nb isin day sheet = filter (on_sheet isin day sheet) nb.records
 
 abbrev pub price_of : Option Record → Option ℕ
-price_of None = None
-price_of (Some t) = Some t.report.price
+price_of o = option_map (λ t. t.report.price) o
 
 abbrev pub executed_before : Record → Record → Bool
 executed_before t u =

@@ -1,5 +1,6 @@
 -- No trace of a deferred trade.
 use Rattle.std.specs.Prelude.{◌≡◌, ℕ, Bool, true, false, ◌&&◌, [], ◌∷◌}
+use Rattle.std.specs.List.{list_any}
 use Rattle.calendar.specs.Meaning.{Lawful as Kept}
 use Rattle.identifier.specs.declared.isin.Isin.{Isin}
 use Rattle.report.specs.declared.figures.Sheet.TheVariants.{Public}
@@ -9,7 +10,6 @@ use Rattle.report.specs.declared.state.State.{State}
 use Rattle.report.specs.declared.state.State.TheVariants.{Waiting, Published, Dropped, Recalled}
 use Rattle.rulebook.specs.declared.call.Call.{Call}
 use Rattle.rulebook.specs.declared.call.Call.TheVariants.{Enter, Amend, Figures}
-use Rattle.rulebook.specs.Lists.{some_of}
 use Rattle.rulebook.specs.Notebook.{Rules, Notebook, same_code, next_code}
 use Rattle.rulebook.specs.Sheets.{sheet_of}
 use Rattle.rulebook.specs.Desk.{Desk, new_desk, taken}
@@ -24,7 +24,7 @@ was_shown Dropped = false
 was_shown Recalled = true
 
 abbrev pub shows : Notebook → Code → Bool
-shows nb code = some_of (λ t. same_code t.code code && was_shown t.state) nb.records
+shows nb code = list_any (λ t. same_code t.code code && was_shown t.state) nb.records
 
 -- the trade of a code is published at no point from here to the end of the history; a trade that falls out with its day is remembered
 abbrev pub Unseen : Rules → Desk → History → Code → Type 0

@@ -30,6 +30,8 @@ impl fmt::Display for Fault {
     }
 }
 
+impl std::error::Error for Fault {}
+
 impl From<io::Error> for Fault {
     fn from(_e: io::Error) -> Fault {
         Fault::Failed

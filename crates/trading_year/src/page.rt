@@ -34,6 +34,7 @@ fn print_closings<W: Write>(out: &mut W, year: Year) -> io::Result<()> {
 }
 
 /// A half day, with the Irish offset and the moment of its close.
+#[derive(Clone, Copy)]
 struct HalfDay {
     day: u32,
     offset: u32,
@@ -73,11 +74,10 @@ fn print_half_day<W: Write>(out: &mut W, half_day: HalfDay) -> io::Result<()> {
 
 fn print_half_days<W: Write>(out: &mut W, year: Year) -> io::Result<()> {
     writeln!(out, "Half days")?;
-    let mut half_days = year.days().filter_map(HalfDay::on);
-    let Some(first) = half_days.next() else {
+    let mut half_days = year.days().filter_map(HalfDay::on).peekable();
+    if half_days.peek().is_none() {
         return writeln!(out, "  none");
-    };
-    print_half_day(out, first)?;
+    }
     for half_day in half_days {
         print_half_day(out, half_day)?;
     }
@@ -101,11 +101,7 @@ fn print_clock_changes<W: Write>(out: &mut W, year: Year) -> io::Result<()> {
 }
 
 fn tally(days: Range<u32>) -> Tally {
-    tally_of(
-        &RuleCalendar,
-        days.start,
-        days.end.saturating_sub(days.start),
-    )
+    tally_of(&RuleCalendar, days.start, days.len() as u32)
 }
 
 fn print_tally<W: Write, T: Display + Drop>(out: &mut W, name: T, tally: Tally) -> io::Result<()> {
@@ -123,7 +119,7 @@ fn print_tallies<W: Write>(out: &mut W, year: Year) -> io::Result<()> {
 }
 
 /// Prints the page of a year.
-pub fn print_page<W: Write>(out: &mut W, year: Year) -> io::Result<()> {
+pub(super) fn print_page<W: Write>(out: &mut W, year: Year) -> io::Result<()> {
     writeln!(out, "Trading calendar {year}")?;
     writeln!(out)?;
     let easter = Date::of(year.easter());

@@ -11,28 +11,33 @@ pub enum Request {
     Days(Year, Year),
 }
 
-// Beside `reading::request`, which reads no year with a plus sign or leading zeros: this program reads them.
-/// Reads the words after the program's name.
-pub fn read_request(words: &[String]) -> Result<Request, Fault> {
-    let (years, by_day) = match words {
-        [years @ .., last] if last.as_str() == "--days" => (years, true),
-        _ => (words, false),
-    };
-    match (years, by_day) {
-        ([], _) => Err(Fault::NoYear),
-        ([year], false) => Ok(Request::Page(Year::read(year.as_str())?)),
-        ([year], true) => {
-            let year = Year::read(year.as_str())?;
+/// Reads the years whose days are asked for.
+fn read_days(years: &[String]) -> Result<Request, Fault> {
+    match years {
+        [] => Err(Fault::NoYear),
+        [year] => {
+            let year = year.as_str().parse()?;
             Ok(Request::Days(year, year))
         }
-        ([first, last], true) => {
-            let first = Year::read(first.as_str())?;
-            let last = Year::read(last.as_str())?;
+        [first, last] => {
+            let first = first.as_str().parse()?;
+            let last = last.as_str().parse()?;
             if first > last {
                 return Err(Fault::Backwards(first, last));
             }
             Ok(Request::Days(first, last))
         }
+        _ => Err(Fault::TooManyWords),
+    }
+}
+
+// Beside `reading::request`, which reads no year with a plus sign or leading zeros: this program reads them.
+/// Reads the words after the program's name.
+pub fn read_request(words: &[String]) -> Result<Request, Fault> {
+    match words {
+        [years @ .., mark] if mark.as_str() == "--days" => read_days(years),
+        [] => Err(Fault::NoYear),
+        [year] => Ok(Request::Page(year.as_str().parse()?)),
         _ => Err(Fault::TooManyWords),
     }
 }

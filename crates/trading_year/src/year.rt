@@ -8,6 +8,7 @@ use civil::date::day_number;
 use civil::month::Month;
 use std::fmt;
 use std::ops::Range;
+use std::str::FromStr;
 
 const FIRST_YEAR: u32 = 2000;
 
@@ -25,15 +26,6 @@ impl Year {
     ghost use Rattle.civil.specs.Dates.{day_number, next_month};
     ghost use Rattle.civil.specs.declared.month.Month.TheVariants.{January};
     ghost use Rattle.calendar.specs.Easter.{easter_sunday};
-
-    /// Reads a year.
-    pub fn read(word: &str) -> Result<Year, Fault> {
-        let number = word.parse::<u32>().map_err(|_| Fault::NoNumber)?;
-        if !(FIRST_YEAR..=LAST_YEAR).contains(&number) {
-            return Err(Fault::OutOfRange(number));
-        }
-        Ok(Year { number })
-    }
 
     /// The day of Easter Sunday.
     pub fn easter(self) -> u32
@@ -81,6 +73,18 @@ impl Year {
         ensures end { result.end ≡ day_number (last.number + 1) January 1 }
     {
         self.first_of(Month::January)..last.end()
+    }
+}
+
+impl FromStr for Year {
+    type Err = Fault;
+
+    fn from_str(word: &str) -> Result<Year, Fault> {
+        let number = word.parse::<u32>().map_err(|_| Fault::NoNumber)?;
+        if !(FIRST_YEAR..=LAST_YEAR).contains(&number) {
+            return Err(Fault::OutOfRange(number));
+        }
+        Ok(Year { number })
     }
 }
 

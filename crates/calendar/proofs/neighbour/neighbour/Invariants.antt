@@ -1,7 +1,6 @@
 use Rattle.std.proofs.Common.{◌≡◌, ℕ, ◌-◌, Option}
 use Rattle.calendar.specs.Steps.{Gives}
-use Rattle.calendar.proofs.Stepping.{days_by}
-use Rattle.calendar.specs.Trading.{nearest}
+use Rattle.calendar.specs.Trading.{nearest, days_by}
 use Rattle.calendar.proofs.neighbour.neighbour.Given as goal
 
 -- what is left to try answers for all

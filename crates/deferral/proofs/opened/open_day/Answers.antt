@@ -5,12 +5,12 @@ use Rattle.deferral.proofs.opened.open_day.Goals as goal
 
 pub returns-in_err-before : goal.returns-in_err-before
 returns-in_err-before g c =
-    let is = found_is (g.C.Calendar.meaning c.args.calendar.now) c.args.day c.trading_day.ensures c.day_before.ensures refl in grind (arith, common_steps)
+    let is = found_is (g.C.Calendar.meaning c.args.calendar.now) c.args.day c.trading_day.ensures c.trading_day_before.ensures refl in grind (arith, common_steps)
 
 pub returns-in_err-after : goal.returns-in_err-after
 returns-in_err-after g c =
-    let is = found_is (g.C.Calendar.meaning c.args.calendar.now) c.args.day c.trading_day.ensures c.day_before.ensures c.day_after.ensures in grind (arith, common_steps)
+    let is = found_is (g.C.Calendar.meaning c.args.calendar.now) c.args.day c.trading_day.ensures c.trading_day_before.ensures c.trading_day_after.ensures in grind (arith, common_steps)
 
 pub returns : goal.returns
 returns g c =
-    let is = found_is (g.C.Calendar.meaning c.args.calendar.now) c.args.day c.trading_day.ensures c.day_before.ensures c.day_after.ensures in grind (arith, common_steps)
+    let is = found_is (g.C.Calendar.meaning c.args.calendar.now) c.args.day c.trading_day.ensures c.trading_day_before.ensures c.trading_day_after.ensures in grind (arith, common_steps)
