@@ -1,79 +1,18 @@
 -- The days in a row of places: what a chain over the places gives, and what stands in the first and the third.
-use Rattle.std.proofs.Common.{◌≡◌, ℕ, suc, ◌+◌, ◌-◌, Bool, true, false, cond, not, ◌||◌, eqb, List, [], ◌∷◌, map, length, get_or, take, is_some, Some, None, Option, sym, refl, ap, ◌∙◌, subst, arith}
-use Rattle.std.specs.Bool.{IsTrue, MatchBool}
-use Rattle.std.specs.Slice.Iter.{iter_rest}
-use Rattle.std.proofs.iter.Yields.{fronts}
-use denote.Ref.{Bor}
-use Rattle.std.specs.Iterator.Adapters.{option_iter_item, option_iter_done, option_iter_steps, flatten_source, flatten_front, flatten_back, flatten_done, flatten_steps}
-use Rattle.std.specs.List.{flat_map, last_or, list_any, position, position_from}
-use Rattle.std.specs.Option.{option_map, option_to_list}
-use Rattle.std.proofs.lemmas.Iterator.{YieldsList, YieldsList-from_slice}
-use Rattle.std.proofs.lemmas.Iterator.Adapters.{YieldsList-from_flatten, position_from-zero}
-use Rattle.std.proofs.lemmas.Iterator.Consumers.{YieldsList-from_shown}
+use Rattle.std.proofs.Common.{◌≡◌, ℕ, suc, ◌+◌, ◌-◌, Bool, true, false, cond, not, ◌||◌, eqb, List, [], ◌∷◌, map, length, get_or, take, is_some, Some, None, Option, sym, refl, ap, ◌∙◌, arith}
+use Rattle.std.specs.List.{flat_map, find, list_any, position, position_from}
+use Rattle.std.specs.Option.{option_and_then, option_map, option_to_list}
+use Rattle.std.proofs.lemmas.Iterator.Adapters.{position_from-zero}
 use Rattle.std.proofs.lemmas.Bool.{and_parts, both_ways, eqb-true}
 use Rattle.deferral.specs.declared.opened.Opened.{Opened}
 use Rattle.rulebook.specs.Notebook.{among}
 use Rattle.ledger.specs.declared.held_day.HeldDay.{HeldDay}
-use Rattle.ledger.specs.HeldDay.{is_day, new_day, lowered}
-use Rattle.ledger.specs.Days.{newest, oldest, slot_of, falls_out, with_opened}
+use Rattle.ledger.specs.HeldDay.{is_day, holds, new_day, lowered}
+use Rattle.ledger.specs.Days.{newest, slot_of, falls_out, with_opened}
 use Rattle.ledger.specs.Packed.{in_front, packed}
 
--- the value in a place, if there is one, which is given once
-none_left : {A : Type 0} (done : Bool) (o : Option A) → MatchBool done (◌≡◌ {A = Option (Bor A)} None None) (None ≡ o) → length (cond done [] (option_to_list o)) ≡ 0
-none_left true o e = refl
-none_left false None e = refl
-none_left false (Some x) e = absurd cc
-
-one_left :
-    {A : Type 0} (done after : Bool) (o left : Option A) (x : Bor A) → IsTrue after → MatchBool done (Some x ≡ None) (Some x.now ≡ o)
-    → cond done [] (option_to_list o) ≡ x.now ∷ cond after [] (option_to_list left)
-one_left true after o left x t e = absurd cc
-one_left false true o left x t e = ap option_to_list (sym e)
-one_left false false o left x t e = absurd (both_ways false refl t)
-
-place_yields :
-    {A : Type 0} (s : _) (o : Option A) → option_iter_item s ≡ o → option_iter_done s ≡ false
-    → YieldsList option_iter_steps (λ y. y.now) s (option_to_list o)
-place_yields s o item done =
-    subst (YieldsList option_iter_steps (λ y. y.now) s)
-    (ap (λ b. cond b [] (option_to_list (option_iter_item s))) done ∙ ap option_to_list item)
-    (YieldsList-from_shown option_iter_steps (λ y. y.now) (λ s. cond (option_iter_done s) [] (option_to_list (option_iter_item s)))
-    (λ s t e. none_left (option_iter_done s) (option_iter_item s) e.1)
-    (λ s x t e. one_left (option_iter_done s) (option_iter_done t) (option_iter_item s) (option_iter_item t) x e.0 e.1)
-    s)
-
--- the values in the places, one after another
-pub row_yields :
-    {A : Type 0} (becomes : Bor (Option A) → _ → Type 0) {s : _} (os : List (Option A)) → iter_rest (flatten_source s) ≡ os
-    → flatten_front s ≡ None → flatten_back s ≡ None → flatten_done s ≡ false
-    → ((o : Bor (Option A)) (j : _) → becomes o j → (option_iter_item j ≡ o.now) × (option_iter_done j ≡ false))
-    → YieldsList (flatten_steps fronts becomes option_iter_steps) (λ y. y.now) s (flat_map option_to_list os)
-row_yields becomes os source front back done is =
-    YieldsList-from_flatten becomes option_iter_steps (λ y. y.now) option_to_list
-    (λ o j b. let held = is o j b in place_yields j o.now held.0 held.1)
-    (YieldsList-from_slice os source) front back done
-
 -- the rules' word for what a chain finds
-pub among_found : (day : ℕ) (hs : List HeldDay) → list_any (is_day day) hs ≡ among (map (λ h. h.opened) hs) day
-among_found day [] = refl
-among_found day (h ∷ hs) = ap (λ b. is_day day h || b) (among_found day hs)
-
-pub last_found : {A : Type 0} (v : A → HeldDay) (xs : List A) (hs : List HeldDay) → map v xs ≡ hs → option_map v (last_or None xs) ≡ oldest hs
-last_found {A} v xs hs e = mapped None xs ∙ ap (last_or None) e ∙ among_them hs
-  where
-    mapped : (o : Option A) (xs : List A) → option_map v (last_or o xs) ≡ last_or (option_map v o) (map v xs)
-    mapped o [] = refl
-    mapped o (x ∷ xs) = mapped (Some x) xs
-
-    behind : (h : HeldDay) (hs : List HeldDay) → last_or (Some h) hs ≡ oldest (h ∷ hs)
-    behind h [] = refl
-    behind h (g ∷ hs) = behind g hs
-
-    among_them : (hs : List HeldDay) → last_or None hs ≡ oldest hs
-    among_them [] = refl
-    among_them (h ∷ hs) = behind h hs
-
-pub slot_found : (day : ℕ) (hs : List HeldDay) → position (is_day day) hs ≡ slot_of day (map (λ h. h.opened) hs)
+slot_found : (day : ℕ) (hs : List HeldDay) → position (is_day day) hs ≡ slot_of day (map (λ h. h.opened) hs)
 slot_found day hs =
     position_from-zero (is_day day) hs ∙ from_slot 0 hs ∙ sym (position_from-zero (λ o. eqb o.day day) (map (λ h. h.opened) hs))
   where
@@ -81,11 +20,41 @@ slot_found day hs =
     from_slot k [] = refl
     from_slot k (h ∷ hs) = ap (cond (is_day day h) (Some k)) (from_slot (k + 1) hs)
 
+-- a search of the places finds what is among the days
+pub any_stands : (day : ℕ) (os : List (Option HeldDay)) → list_any (holds day) os ≡ among (map (λ h. h.opened) (flat_map option_to_list os)) day
+any_stands day [] = refl
+any_stands day (None ∷ os) = any_stands day os
+any_stands day (Some h ∷ os) = ap (λ b. is_day day h || b) (any_stands day os)
+
+pub find_stands : (day : ℕ) (os : List (Option HeldDay)) → option_and_then (λ o. o) (find (holds day) os) ≡ find (is_day day) (flat_map option_to_list os)
+find_stands day [] = refl
+find_stands day (None ∷ os) = find_stands day os
+find_stands day (Some h ∷ os) = by (is_day day h) (find (holds day) os) (find_stands day os) where
+  by : (b : Bool) (q : Option (Option HeldDay)) {r : Option HeldDay} → option_and_then (λ o. o) q ≡ r → option_and_then (λ o. o) (cond b (Some (Some h)) q) ≡ cond b (Some h) r
+  by true q e = refl
+  by false q e = e
+
 -- where the empty places come last, the latest day stands in the first
 none_behind : {X : Type 0} (os : List (Option X)) → not (list_any is_some os) ≡ true → flat_map option_to_list os ≡ []
 none_behind [] e = refl
 none_behind (None ∷ os) e = none_behind os e
 none_behind (Some x ∷ os) e = absurd (both_ways false refl e)
+
+-- and a day has the same place among them as among the days
+none_holds : (day k : ℕ) (os : List (Option HeldDay)) → not (list_any is_some os) ≡ true → position_from (holds day) k os ≡ None
+none_holds day k [] e = refl
+none_holds day k (None ∷ os) e = none_holds day (k + 1) os e
+none_holds day k (Some h ∷ os) e = absurd (both_ways false refl e)
+
+place_from : (day k : ℕ) (os : List (Option HeldDay)) → in_front os ≡ true → position_from (holds day) k os ≡ position_from (is_day day) k (flat_map option_to_list os)
+place_from day k [] p = refl
+place_from day k (None ∷ os) p = none_holds day (k + 1) os p ∙ sym (ap (position_from (is_day day) k) (none_behind os p))
+place_from day k (Some h ∷ os) p = ap (cond (is_day day h) (Some k)) (place_from day (k + 1) os p)
+
+pub slot_stands : (day : ℕ) (os : List (Option HeldDay)) → packed os ≡ true → position (holds day) os ≡ slot_of day (map (λ h. h.opened) (flat_map option_to_list os))
+slot_stands day os p =
+    position_from-zero (holds day) os ∙ place_from day 0 os (and_parts (eqb (length os) 3) (in_front os) p).1
+    ∙ sym (position_from-zero (is_day day) (flat_map option_to_list os)) ∙ slot_found day (flat_map option_to_list os)
 
 pub latest_stands : (os : List (Option HeldDay)) → packed os ≡ true → get_or os 0 None ≡ newest (flat_map option_to_list os)
 latest_stands [] p = refl

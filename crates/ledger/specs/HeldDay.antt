@@ -1,11 +1,16 @@
 -- A held day: its codes, and where their trades stand.
-use Rattle.std.specs.Prelude.{ℕ, ◌+◌, ◌-◌, ◌^◌, min, Bool, cond, ◌||◌, Some, None, Option, ◌==◌, nat_lt}
+use Rattle.std.specs.Prelude.{ℕ, ◌+◌, ◌-◌, ◌^◌, min, Bool, false, cond, ◌||◌, Some, None, Option, ◌==◌, nat_lt}
 use Rattle.deferral.specs.declared.opened.Opened.{Opened}
 use Rattle.report.specs.declared.report.Code.{Code}
 use Rattle.ledger.specs.declared.held_day.HeldDay.{HeldDay}
 
 abbrev pub is_day : ℕ → HeldDay → Bool
 is_day day h = h.opened.day == day
+
+-- it is that day which stands in the place
+abbrev pub holds : ℕ → Option HeldDay → Bool
+holds day None = false
+holds day (Some h) = is_day day h
 
 -- the trades of a day stand in the order of their serials, from where the day begins
 abbrev pub place_in : ℕ → HeldDay → Option ℕ

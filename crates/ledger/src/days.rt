@@ -1,6 +1,7 @@
 //! The held days.
 ghost use Rattle.std.specs.Bool.{IsTrue};
 ghost use Rattle.std.specs.Prelude.{◌≡◌};
+ghost use Rattle.ledger.specs.HeldDay.{holds};
 ghost use Rattle.ledger.specs.Packed.{packed};
 
 use super::held_day::HeldDay;
@@ -12,6 +13,13 @@ use report::report::Code;
 pub struct Days {
     pub held: [Option<HeldDay>; 3],
     ghost packed: { IsTrue (packed held) },
+}
+
+/// Is it that day which stands in the place?
+fn holds(place: &Option<HeldDay>, day: u32) -> bool
+    ensures { result ≡ holds day place.now }
+{
+    matches!(place, Some(held) if held.is_day(day))
 }
 
 impl Days {
@@ -42,32 +50,28 @@ impl Days {
     pub fn oldest(&self) -> Option<HeldDay>
         ensures { result ≡ oldest (held_days self.now) }
     {
-        self.held.iter().flatten().last().copied()
+        self.held[2].or(self.held[1]).or(self.held[0])
     }
 
     /// The held day of that number.
     pub fn find(&self, day: u32) -> Option<HeldDay>
         ensures { result ≡ find (is_day day) (held_days self.now) }
     {
-        self.held
-            .iter()
-            .flatten()
-            .find(|held| held.is_day(day))
-            .copied()
+        *self.held.iter().find(|&place| holds(place, day))?
     }
 
     /// Is the day held?
     pub fn has(&self, day: u32) -> bool
         ensures { result ≡ among (days_of self.now) day }
     {
-        self.held.iter().flatten().any(|held| held.is_day(day))
+        self.held.iter().any(|place| holds(place, day))
     }
 
     /// The place of a day among the held ones, the latest being at 0.
     pub fn slot_of(&self, day: u32) -> Option<usize>
         ensures { result ≡ slot_of day (days_of self.now) }
     {
-        self.held.iter().flatten().position(|held| held.is_day(day))
+        self.held.iter().position(|place| holds(place, day))
     }
 
     /// How many records go where one day more is opened: of four days the oldest goes with its trades.

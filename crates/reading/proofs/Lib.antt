@@ -4,4 +4,3 @@ mod Requests
 mod Spelling
 mod Told
 mod Values
-pub mod InTurn

@@ -16,6 +16,10 @@ pub passes : {F X V : Type 0} (flaw : List ℕ → Option F) (value : List ℕ �
 passes flaw value word same x later v e h =
     ap (λ w. unless (first_of (flaw w) later) v) (sym e) ∙ ap (λ o. unless (first_of o later) v) (right (flaw word) (value word) x h).0
 
+-- and says its value
+pub says : {F X : Type 0} (flaw : List ℕ → Option F) (value : List ℕ → X) (word same : List ℕ) (x : X) → word ≡ same → Ok x ≡ unless (flaw word) (value word) → x ≡ value same
+says flaw value word same x e h = (right (flaw word) (value word) x h).1 ∙ ap value e
+
 -- a word that is wrong is told
 pub stops : {F X V : Type 0} (flaw : List ℕ → Option F) (value : List ℕ → X) (word same : List ℕ) (f : F) (later : Option F) (v : V) → word ≡ same → Err f ≡ unless (flaw word) (value word) → Err f ≡ unless (first_of (flaw same) later) v
 stops flaw value word same f later v e h =

@@ -1,5 +1,5 @@
 -- A line that holds a trade: `CLASS ADT PRICE QUANTITY EXECUTION CLOCK MARK`.
-use Rattle.std.specs.Prelude.{◌≡◌, ℕ, Bool, cond, not, ◌||◌, List, [], ◌∷◌, length, Some, None, codes, Option, Result, ◌==◌, nat_lt, slice_index_or}
+use Rattle.std.specs.Prelude.{ℕ, Bool, cond, not, ◌||◌, List, [], ◌∷◌, length, Some, None, codes, Option, Result, ◌==◌, nat_lt, slice_index_or}
 use Rattle.std.specs.Str.{bytes_eq}
 use Rattle.deferral.specs.declared.question.Class.{Class}
 use Rattle.deferral.specs.declared.question.Class.TheVariants.{Equity, Etf}
@@ -8,11 +8,10 @@ use Rattle.reading.specs.declared.flaw.Field.TheVariants as field
 use Rattle.reading.specs.declared.flaw.Flaw.{Flaw}
 use Rattle.reading.specs.declared.flaw.Flaw.TheVariants.{Missing, WrongClass, NoNumber, LeadingZero, TooLarge, WrongMark, TooManyWords}
 use Rattle.reading.specs.declared.line.Asked.{Asked}
-use Rattle.reading.specs.declared.line.Words.{Words}
 use Rattle.reading.specs.declared.number.NumberFlaw.{NumberFlaw}
 use Rattle.reading.specs.declared.number.NumberFlaw.TheVariants as number
 use Rattle.refusal.specs.Grounds.{unless}
-use Rattle.reading.specs.Flaws.{flaw_if, first_flaw, ◌>>=◌}
+use Rattle.reading.specs.Flaws.{flaw_if, first_flaw}
 use Rattle.reading.specs.Number.{number_flaw, decimal_value}
 use Rattle.reading.specs.Words.{words_of}
 
@@ -79,26 +78,3 @@ asked_in words = record {
 -- a line read: its first flaw, or the trade and the clock that it says
 unfoldable pub line_read : List ℕ → Result Asked Flaw
 line_read line = unless (first_flaw (line_flaws (words_of line))) (asked_in (words_of line))
-
--- the words that were taken from a line, each in its place, and whether others follow
-pub record StandIn (words : List (List ℕ)) (w : Words) : Type 0 where
-  pub class : w.class.now ≡ word_at 0 words
-  pub daily : w.daily.now ≡ word_at 1 words
-  pub price : w.price.now ≡ word_at 2 words
-  pub quantity : w.quantity.now ≡ word_at 3 words
-  pub execution : w.execution.now ≡ word_at 4 words
-  pub clock : w.clock.now ≡ word_at 5 words
-  pub mark : w.mark.now ≡ word_at 6 words
-  pub more : w.more ≡ nat_lt 7 (length words)
-
--- words read from left to right, each only where those before it are right
-unfoldable pub read_in_turn : List ℕ → List ℕ → List ℕ → List ℕ → List ℕ → List ℕ → List ℕ → Bool → Result Asked Flaw
-read_in_turn class daily price quantity execution clock mark more = do
-  c ← unless (class_flaw class) (class_of class)
-  d ← unless (field_flaw field.Daily daily) (decimal_value daily)
-  p ← unless (field_flaw field.Price price) (decimal_value price)
-  q ← unless (field_flaw field.Quantity quantity) (decimal_value quantity)
-  e ← unless (field_flaw field.Execution execution) (decimal_value execution)
-  n ← unless (field_flaw field.Clock clock) (decimal_value clock)
-  m ← unless (mark_flaw mark) (defers mark)
-  unless (flaw_if more TooManyWords) (record { trade = record { class = c; daily = d; price = p; quantity = q; execution = e; deferrable = m }; clock = n })

@@ -1,12 +1,11 @@
 use Rattle.std.proofs.Common.{◌∙◌, rules, tests}
+use Rattle.std.proofs.lemmas.Iterator.{YieldsList-from_slice}
 use Rattle.std.proofs.lemmas.Iterator.Search.{position_from_yields_List}
-use Rattle.ledger.specs.HeldDay.{is_day}
-use Rattle.ledger.proofs.Row.{row_yields, slot_found}
+use Rattle.ledger.specs.HeldDay.{holds}
+use Rattle.ledger.proofs.Row.{slot_stands}
 use Rattle.ledger.proofs.days.Days.slot_of.Goals as goal
 
 pub returns : goal.returns
 returns c =
-    position_from_yields_List (is_day c.args.day) _ _ _ c.position.ensures.ran
-    (row_yields _ c.args.self.now.held (cc) (cc) (cc) (cc) (λ o j b. (b.0, b.1)))
-    (λ x b q k. search (rules, tests))
-    ∙ slot_found c.args.day _
+    position_from_yields_List (holds c.args.day) _ _ _ c.position.ensures.ran (YieldsList-from_slice c.args.self.now.held cc) (λ x b q k. search (rules, tests))
+    ∙ slot_stands c.args.day c.args.self.now.held c.args.self.now.packed
