@@ -1,4 +1,4 @@
--- The days in a row of places: what a chain over the places gives, and what stands in the first and the third.
+-- The days in a row of places: what a search of the places finds, and what stands in the first and the third.
 use Rattle.std.proofs.Common.{◌≡◌, ℕ, suc, ◌+◌, ◌-◌, Bool, true, false, cond, not, ◌||◌, eqb, List, [], ◌∷◌, map, length, get_or, take, is_some, Some, None, Option, sym, refl, ap, ◌∙◌, arith}
 use Rattle.std.specs.List.{flat_map, find, list_any, position, position_from}
 use Rattle.std.specs.Option.{option_and_then, option_map, option_to_list}
@@ -11,7 +11,7 @@ use Rattle.ledger.specs.HeldDay.{is_day, holds, new_day, lowered}
 use Rattle.ledger.specs.Days.{newest, slot_of, falls_out, with_opened}
 use Rattle.ledger.specs.Packed.{in_front, packed}
 
--- the rules' word for what a chain finds
+-- the rules' word for the place that is found
 slot_found : (day : ℕ) (hs : List HeldDay) → position (is_day day) hs ≡ slot_of day (map (λ h. h.opened) hs)
 slot_found day hs =
     position_from-zero (is_day day) hs ∙ from_slot 0 hs ∙ sym (position_from-zero (λ o. eqb o.day day) (map (λ h. h.opened) hs))
